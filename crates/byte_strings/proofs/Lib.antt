@@ -1,1 +1,3 @@
+pub mod LongProbes
+pub mod StringOrder
 pub mod TotalOrder

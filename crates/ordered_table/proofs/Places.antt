@@ -1,6 +1,6 @@
 -- Where an entry stands among entries that ascend. Assumes nothing.
 use mathlib.Core.Path.{_≡_, refl, sym, ap, subst, _∙_}
-use mathlib.Core.Bool.{Bool, true, false, cond, true≢false}
+use mathlib.Core.Bool.{Bool, true, false, cond, _&&_, true≢false}
 use mathlib.Core.Logic.{_⊎_, inl, inr, ⊎-elim}
 use mathlib.Core.List.{List, [], _∷_, map}
 use Prim.Native.Nat.{ℕ, zero, suc, _+_, _<_, _≤_, suc-le-suc, zero-le}
@@ -16,6 +16,7 @@ use Rattle.std.specs.Keys.{Total, alike-right}
 use Rattle.std.specs.Orderings.{isLt, isEq, reversed, placed}
 use Rattle.std.specs.Places.{Located, Rises}
 use Rattle.std.specs.Results.{Cases}
+use Rattle.std.specs.shelf.Lawful.{all-pass, sorted-test}
 use Rattle.std.proofs.shelf.Lawful.{sorted-from-test, less-from-sorted}
 use Rattle.std.proofs.shelf.Sorted.{searchable-from-ascends}
 use Rattle.std.proofs.shelf.Tests.{cases-lt}
@@ -122,3 +123,11 @@ module _ {E K : Type 0} (key : E → K) (cmp : K → K → Ordering) where
   unfolding place
   place-keys [] x = refl
   place-keys (y ∷ ys) x = ap (λ n. cond (isLt (by-key y x)) (suc n) 0) (place-keys ys x)
+
+  pass-keys : (x : E) (ys : List E) → all-pass (λ y. isLt (by-key x y)) ys ≡ all-pass (λ k. isLt (cmp (key x) k)) (map key ys)
+  pass-keys x [] = refl
+  pass-keys x (y ∷ ys) = ap (λ b. isLt (by-key x y) && b) (pass-keys x ys)
+
+  pub sorted-keys : (xs : List E) → sorted-test by-key xs ≡ sorted-test cmp (map key xs)
+  sorted-keys [] = refl
+  sorted-keys (x ∷ xs) = λ t. pass-keys x xs t && sorted-keys xs t

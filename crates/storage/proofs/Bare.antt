@@ -17,7 +17,7 @@ use Rattle.std.specs.Orderings.{isEq}
 use Rattle.std.specs.shelf.Lists.{inserted, removed}
 use Rattle.std.proofs.shelf.Lists.{length-map}
 use Rattle.std.proofs.shelf.Maps.{nth-getD, nth-past}
-use Rattle.std.proofs.shelf.Tests.{le-leb, lt-leb}
+use Rattle.std.proofs.shelf.Tests.{le-leb, lt-leb, ltb-false, or-parts}
 use Rattle.byte_strings.specs.Bytes.{Bytes, order, same}
 use Rattle.byte_strings.proofs.TotalOrder.{same-order}
 use Rattle.ordered_table.specs.Table.{holds, place}
@@ -28,9 +28,10 @@ use Rattle.storage.specs.declared.faults.RowFault.the-variants.{AlreadyExists,
 use Rattle.storage.specs.declared.mark.PositionMark.{PositionMark}
 use Rattle.storage.specs.Checks.{first, settled}
 use Rattle.storage.specs.Pairs.{Ascending, total, keys, next, under, placed, without}
+use Rattle.storage.specs.Places.{next-place}
 use Rattle.storage.specs.Reading.{found, fetched, filled}
 use Rattle.storage.specs.Rows.{bare, keys-bare, row-checks, add-checks, drop-checks}
-use Rattle.storage.proofs.Places.{placed-at, without-at, next-place, next-at}
+use Rattle.storage.proofs.Places.{placed-at, without-at, next-at}
 
 pub total-bare : (rows : List Bytes) → total (bare rows) ≡ 0
 unfolding total
@@ -54,6 +55,20 @@ under-bare [] x = refl
 under-bare (row ∷ rows) x =
     ap (λ b. cond b (Some []) (under x (bare rows))) (sym (same-order row x))
     ∙ under-step (isEq (order row x)) (holds order rows x) (under x (bare rows)) (under-bare rows x)
+
+-- a row that passed its check
+passed : (b : Bool) (fault : RowFault) (u : Unit {0}) → Ok u ≡ settled (first ((b, fault) ∷ [])) → b ≡ false
+passed true fault u e = let z : _≡_ {A = ℕ} 0 1 = cc in absurd (omega arith)
+passed false fault u e = refl
+
+pub row-passed : (x : Bytes) (u : Unit {0}) → Ok u ≡ settled (first (row-checks x)) → ((eqb (length x) 0 || ltb 66 (length x)) ≡ false) × (length x ≤ 66)
+row-passed x u e =
+    let b = passed (eqb (length x) 0 || ltb 66 (length x)) IllegalCount u e in
+    (b, ltb-false 66 (length x) (or-parts (eqb (length x) 0) (ltb 66 (length x)) b .1))
+
+some-held : (b : Bool) (y : Bytes) → isSome (cond b (Some y) None) ≡ b
+some-held true y = refl
+some-held false y = refl
 
 module _ (rows : List Bytes) (x : Bytes) where
   under-held : holds order rows x ≡ true → under x (bare rows) ≡ Some []
@@ -105,6 +120,18 @@ module _ (rows : List Bytes) (x : Bytes) where
   pub add-done : (limit : ℕ) → ill-formed ≡ false → holds order rows x ≡ false → length rows < limit → settled (first (add-checks limit (bare rows) x)) ≡ Ok tt
   add-done limit e h l =
       λ t. outcome (e t) (ap isSome (under-absent h) t) ((ap (leb limit) (length-bare rows) ∙ lt-leb limit (length rows) l) t)
+
+  -- a row of the right length, by what the ordered table says of it
+  pub add-is : (limit : ℕ) → ill-formed ≡ false → settled (first (add-checks limit (bare rows) x)) ≡ cond (holds order rows x) (Err AlreadyExists) (cond (leb limit (length rows)) (Err FileFull) (Ok tt))
+  add-is limit e = (λ t. outcome (e t) (there t) (leb limit (length-bare rows t))) ∙ split (holds order rows x) (leb limit (length rows))
+    where
+      there : isSome (under x (bare rows)) ≡ holds order rows x
+      there = ap isSome (under-bare rows x) ∙ some-held (holds order rows x) []
+
+      split : (h f : Bool) → outcome false h f ≡ cond h (Err AlreadyExists) (cond f (Err FileFull) (Ok tt))
+      split true f = refl
+      split false true = refl
+      split false false = refl
 
   pub add-leaves : holds order rows x ≡ false → bare (inserted rows (place order rows x) x) ≡ placed x [] (bare rows)
   add-leaves h =

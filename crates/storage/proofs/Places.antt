@@ -9,7 +9,6 @@ use Rattle.std.specs.declared.cmp.Ordering.the-variants.{Less, Equal, Greater}
 use Rattle.std.specs.declared.option.Option.{Option}
 use Rattle.std.specs.declared.option.Option.the-variants.{Some, None}
 use Rattle.std.specs.Finite.{nth}
-use Rattle.std.specs.Options.{isSome}
 use Rattle.std.specs.Orderings.{isLt, isEq, reversed}
 use Rattle.std.specs.shelf.Lists.{inserted, removed}
 use Rattle.std.specs.shelf.Lawful.{sorted-test}
@@ -19,7 +18,8 @@ use Rattle.ordered_table.specs.Table.{holds, place}
 use Rattle.ordered_table.proofs.Edits.{left, right, is-less, beyond, all-above, flipped}
 use Rattle.storage.specs.declared.mark.PositionMark.{PositionMark}
 use Rattle.storage.specs.declared.mark.PositionMark.the-variants.{At, Beyond}
-use Rattle.storage.specs.Pairs.{Ascending, reached, next, keys, under, placed, without}
+use Rattle.storage.specs.Places.{next-place}
+use Rattle.storage.specs.Pairs.{Ascending, reached, next, keys, placed, without}
 
 -- nothing beyond a key is that key
 pub none-beyond : (x : Bytes) (ks : List Bytes) → T (beyond total-order x ks) → holds order ks x ≡ false
@@ -30,25 +30,15 @@ none-beyond x (k ∷ ks) a =
     ∙ none-beyond x ks (right (isLt (order x k)) (beyond total-order x ks) a)
 
 -- what comes before all of them is not among them, and neither is what equals it
-apart-equal : (k x : Bytes) (ks : List Bytes) → order k x ≡ Equal → T (beyond total-order k ks) → T (beyond total-order x ks)
+pub apart-equal : (k x : Bytes) (ks : List Bytes) → order k x ≡ Equal → T (beyond total-order k ks) → T (beyond total-order x ks)
 apart-equal k x ks e a = subst (λ y. T (beyond total-order y ks)) (equal-is k x e) a
 
-apart-greater : (k x : Bytes) (ks : List Bytes) → order k x ≡ Greater → T (beyond total-order k ks) → T (beyond total-order x ks)
+pub apart-greater : (k x : Bytes) (ks : List Bytes) → order k x ≡ Greater → T (beyond total-order k ks) → T (beyond total-order x ks)
 apart-greater k x ks e a = all-above total-order x k (flipped total-order k x Greater e) ks a
 
 -- ---- pairs under keys
 
 module _ {A : Type 0} where
-  under-step : (b : Bool) (a : A) (o : Option A) → isSome (cond b (Some a) o) ≡ cond b true (isSome o)
-  under-step true a o = refl
-  under-step false a o = refl
-
-  pub under-holds : (κ : Bytes) (ps : List (Bytes × A)) → isSome (under κ ps) ≡ holds order (keys ps) κ
-  unfolding under holds
-  under-holds κ [] = refl
-  under-holds κ (p ∷ ps) =
-      under-step (same (p .0) κ) (p .1) (under κ ps) ∙ (λ t. cond (sym (same-order (p .0) κ) t) true (under-holds κ ps t))
-
   placed-step : (κ : Bytes) (a : A) (p : Bytes × A) (ps : List (Bytes × A)) (o : Ordering) → cond (isEq o) true (holds order (keys ps) κ) ≡ false → (holds order (keys ps) κ ≡ false → placed κ a ps ≡ inserted ps (place order (keys ps) κ) (κ, a)) → cond (isLt (reversed o)) ((κ, a) ∷ p ∷ ps) (p ∷ placed κ a ps) ≡ inserted (p ∷ ps) (cond (isLt o) (suc (place order (keys ps) κ)) 0) (κ, a)
   placed-step κ a p ps Less h ih = ap (λ l. p ∷ l) (ih h)
   placed-step κ a p ps Equal h ih = absurd (true≢false h)
@@ -90,11 +80,6 @@ module _ {A : Type 0} where
       (without-at κ ps (right (beyond total-order (p .0) (keys ps)) (sorted-test order (keys ps)) up))
 
 -- ---- the next key
-
--- where the next key stands, by whether the sought one is there and its place
-abbrev pub next-place : PositionMark → Bool → ℕ → ℕ
-next-place At there i = i
-next-place Beyond there i = cond there (suc i) i
 
 -- whether a key is reached, by how it compares with the sought one
 abbrev reached-by : PositionMark → Ordering → Bool

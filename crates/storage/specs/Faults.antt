@@ -1,5 +1,7 @@
 -- The number of each refusal of the files below.
 use Prim.Native.Nat.{ℕ}
+use Rattle.ordered_table.specs.declared.fault.InsertFault.{InsertFault}
+use Rattle.ordered_table.specs.declared.fault.InsertFault.the-variants as insert
 use Rattle.storage.specs.declared.faults.PrimaryFault.{PrimaryFault}
 use Rattle.storage.specs.declared.faults.PrimaryFault.the-variants as primary
 use Rattle.storage.specs.declared.faults.RowFault.{RowFault}
@@ -19,3 +21,8 @@ row-number row.AlreadyExists = 10
 row-number row.NotFound = 11
 row-number row.IllegalCount = 21
 row-number row.FileFull = 45
+
+-- what a refused insertion into the ordered table means for a row
+abbrev pub row-fault : InsertFault → RowFault
+row-fault insert.Present = row.AlreadyExists
+row-fault insert.Full = row.FileFull

@@ -1,6 +1,8 @@
 // The refusals of the files below, each with its number.
 ghost use mathlib.Core.Path.{_≡_};
-ghost use Rattle.storage.specs.Faults.{primary-number, row-number, absent-number};
+ghost use Rattle.storage.specs.Faults.{primary-number, row-number, absent-number, row-fault};
+
+use ordered_table::InsertFault;
 
 // No pair has the key.
 #[derive(Clone, Copy, PartialEq, Eq, Debug)]
@@ -54,6 +56,18 @@ impl RowFault {
             RowFault::NotFound => 11,
             RowFault::IllegalCount => 21,
             RowFault::FileFull => 45,
+        }
+    }
+}
+
+// What keeps an entry out of the ordered table keeps a row out of its file.
+pub impl From<InsertFault> for RowFault as RowFaultFromInsert {
+    ghost converts = { λ x y. y ≡ row-fault x };
+
+    fn from(fault: InsertFault) -> RowFault {
+        match fault {
+            InsertFault::Present => RowFault::AlreadyExists,
+            InsertFault::Full => RowFault::FileFull,
         }
     }
 }
