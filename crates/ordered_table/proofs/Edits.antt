@@ -67,6 +67,14 @@ module _ {E : Type 0} {R : E → E → Ordering → Type 0} (o : Total R) where
       (less-test (o .cmp x z) (o .trans x y z e (is-less (o .cmp y z) (left (isLt (o .cmp y z)) (beyond y zs) a))))
       (all-above x y e zs (right (isLt (o .cmp y z)) (beyond y zs) a))
 
+  -- x is not among entries that it comes before
+  pub none-beyond : (x : E) (ys : List E) → T (beyond x ys) → holds (o .cmp) ys x ≡ false
+  unfolding holds
+  none-beyond x [] a = refl
+  none-beyond x (y ∷ ys) a =
+      ap (λ r. cond (isEq r) true (holds (o .cmp) ys x)) (flipped x y Less (is-less (o .cmp x y) (left (isLt (o .cmp x y)) (beyond x ys) a)))
+      ∙ none-beyond x ys (right (isLt (o .cmp x y)) (beyond x ys) a)
+
   put-step : (y : E) (ys : List E) (x : E) (r : Ordering) → o .cmp y x ≡ r → Ascending (o .cmp) (y ∷ ys) → cond (isEq r) true (holds (o .cmp) ys x) ≡ false → (holds (o .cmp) ys x ≡ false → Ascending (o .cmp) (inserted ys (place (o .cmp) ys x) x)) → Ascending (o .cmp) (inserted (y ∷ ys) (cond (isLt r) (suc (place (o .cmp) ys x)) 0) x)
   put-step y ys x Less e a h ih =
       both (beyond y (inserted ys (place (o .cmp) ys x) x)) (sorted-test (o .cmp) (inserted ys (place (o .cmp) ys x) x))

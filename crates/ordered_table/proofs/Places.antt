@@ -100,15 +100,6 @@ module _ {E : Type 0} {R : E → E → Ordering → Type 0} (o : Total R) where
       let f = missing-at (o .cmp) xs x x i b (λ k l. p .0 k x zero-le l) (λ k le l. p .1 k x le l) in
       sym (λ t. cond (f .0 t) (Ok (f .1 t)) (Err (f .1 t)))
 
--- what the answer of a search says
-pub not-there : (b : Bool) (p at : ℕ) → Err at ≡ cond b (Ok p) (Err p) → (b ≡ false) × (p ≡ at)
-not-there true p at e = let z : _≡_ {A = ℕ} 0 1 = cc in absurd (omega arith)
-not-there false p at e = (refl, cc)
-
-pub is-there : (b : Bool) (p at : ℕ) → Ok at ≡ cond b (Ok p) (Err p) → (b ≡ true) × (p ≡ at)
-is-there true p at e = (refl, cc)
-is-there false p at e = let z : _≡_ {A = ℕ} 0 1 = cc in absurd (omega arith)
-
 -- entries ordered by a key: the table of the entries and that of their keys
 module _ {E K : Type 0} (key : E → K) (cmp : K → K → Ordering) where
   abbrev pub by-key : E → E → Ordering

@@ -17,7 +17,8 @@ use Rattle.byte_strings.specs.Bytes.{Bytes, order}
 use Rattle.byte_strings.specs.Texts.{text}
 use Rattle.ordered_table.specs.Table.{Ascending, holds, place, searched}
 use Rattle.ordered_table.proofs.Edits.{both}
-use Rattle.ordered_table.proofs.Places.{by-key, holds-keys, place-keys, sorted-keys, is-there, not-there}
+use Rattle.ordered_table.proofs.Places.{by-key, holds-keys, place-keys, sorted-keys}
+use Rattle.ordered_table.proofs.Outcomes.{is-there, not-there}
 use Rattle.storage.specs.declared.mark.PositionMark.{PositionMark}
 use Rattle.storage.specs.declared.mark.PositionMark.the-variants.{At, Beyond}
 use Rattle.storage.specs.Places.{next-place}

@@ -8,10 +8,9 @@ ghost use Rattle.ordered_table.specs.Table.{searched};
 ghost use Rattle.storage.specs.Rows.{bare, bare-ascending};
 ghost use Rattle.row_table.specs.Cells.{rows-in};
 ghost use Rattle.row_table.specs.Tables.{rows, limit-of};
-
+use crate::table::RowTable;
 use byte_strings::ByteStringOrd;
 use byte_strings::fill_front;
-use crate::table::RowTable;
 use ordered_table::insert;
 use ordered_table::remove;
 use ordered_table::search;
@@ -32,7 +31,10 @@ impl<'a> RowTable<'a> {
         ensures rows { λ r. ⌜ rows r ≡ [] ⌝ }
         ensures limit { λ r. ⌜ limit-of r ≡ length (space .entry .cells .now) ⌝ }
     {
-        RowTable { cells: space.into_cells(), used: 0 }
+        RowTable {
+            cells: space.into_cells(),
+            used: 0,
+        }
     }
 
     // Where the string stands among the rows, or would stand. One that is longer than any row comes right behind its

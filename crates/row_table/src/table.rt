@@ -4,7 +4,6 @@ ghost use lib.ListN.{length};
 ghost use Rattle.byte_strings.specs.Bytes.{order};
 ghost use Rattle.ordered_table.specs.Table.{Ascending};
 ghost use Rattle.row_table.specs.Cells.{rows-in};
-
 use storage::KeyRow;
 
 #[derive(Drop)]

@@ -15,9 +15,9 @@ use Rattle.byte_strings.specs.Bytes.{Bytes, order}
 use Rattle.byte_strings.proofs.LongProbes.{with-more, order-long}
 use Rattle.byte_strings.proofs.TotalOrder.{total-order}
 use Rattle.ordered_table.specs.Table.{holds, place}
-use Rattle.ordered_table.proofs.Edits.{left, right, is-less, beyond, flipped}
+use Rattle.ordered_table.proofs.Edits.{left, right, is-less, beyond, flipped, none-beyond}
 use Rattle.storage.specs.Pairs.{Ascending}
-use Rattle.storage.proofs.Places.{none-beyond, apart-equal, apart-greater}
+use Rattle.storage.proofs.Places.{apart-equal, apart-greater}
 
 abbrev pub short : ℕ → List Bytes → Bool
 short n ks = all-pass (λ k. leb (length k) n) ks
@@ -60,7 +60,7 @@ module _ (n : ℕ) (x : Bytes) (long : n < length x) where
       inside true = refl
       inside false = refl
   place-step k ks Equal e a s ih = ap suc (place-beyond ks s (apart-equal k front ks e a))
-  place-step k ks Greater e a s ih = ap (λ b. cond b 1 0) (sym (none-beyond front ks (apart-greater k front ks e a)))
+  place-step k ks Greater e a s ih = ap (λ b. cond b 1 0) (sym (none-beyond total-order front ks (apart-greater k front ks e a)))
 
   pub place-long : (ks : List Bytes) → Ascending ks → T (short n ks) → place order ks x ≡ cond (holds order ks front) (suc (place order ks front)) (place order ks front)
   unfolding holds place
@@ -68,4 +68,4 @@ module _ (n : ℕ) (x : Bytes) (long : n < length x) where
   place-long (k ∷ ks) up s =
       ap (λ o. cond (isLt o) (suc (place order ks x)) 0) (by-front k (left (leb (length k) n) (short n ks) s))
       ∙ place-step k ks (order k front) refl (left (beyond total-order k ks) (sorted-test order ks) up) (right (leb (length k) n) (short n ks) s)
-        (place-long ks (right (beyond total-order k ks) (sorted-test order ks) up) (right (leb (length k) n) (short n ks) s))
+      (place-long ks (right (beyond total-order k ks) (sorted-test order ks) up) (right (leb (length k) n) (short n ks) s))

@@ -15,19 +15,11 @@ use Rattle.std.specs.shelf.Lawful.{sorted-test}
 use Rattle.byte_strings.specs.Bytes.{Bytes, order, below, same}
 use Rattle.byte_strings.proofs.TotalOrder.{total-order, equal-is, same-order}
 use Rattle.ordered_table.specs.Table.{holds, place}
-use Rattle.ordered_table.proofs.Edits.{left, right, is-less, beyond, all-above, flipped}
+use Rattle.ordered_table.proofs.Edits.{left, right, is-less, beyond, all-above, flipped, none-beyond}
 use Rattle.storage.specs.declared.mark.PositionMark.{PositionMark}
 use Rattle.storage.specs.declared.mark.PositionMark.the-variants.{At, Beyond}
 use Rattle.storage.specs.Places.{next-place}
 use Rattle.storage.specs.Pairs.{Ascending, reached, next, keys, placed, without}
-
--- nothing beyond a key is that key
-pub none-beyond : (x : Bytes) (ks : List Bytes) → T (beyond total-order x ks) → holds order ks x ≡ false
-unfolding holds
-none-beyond x [] a = refl
-none-beyond x (k ∷ ks) a =
-    ap (λ o. cond (isEq o) true (holds order ks x)) (flipped total-order x k Less (is-less (order x k) (left (isLt (order x k)) (beyond total-order x ks) a)))
-    ∙ none-beyond x ks (right (isLt (order x k)) (beyond total-order x ks) a)
 
 -- what comes before all of them is not among them, and neither is what equals it
 pub apart-equal : (k x : Bytes) (ks : List Bytes) → order k x ≡ Equal → T (beyond total-order k ks) → T (beyond total-order x ks)
@@ -66,9 +58,9 @@ module _ {A : Type 0} where
 
   without-step : (κ : Bytes) (p : Bytes × A) (ps : List (Bytes × A)) (o : Ordering) → order (p .0) κ ≡ o → T (beyond total-order (p .0) (keys ps)) → cond (isEq o) true (holds order (keys ps) κ) ≡ true → (holds order (keys ps) κ ≡ true → without κ ps ≡ removed ps (place order (keys ps) κ)) → cond (isEq o) (without κ ps) (p ∷ without κ ps) ≡ removed (p ∷ ps) (cond (isLt o) (suc (place order (keys ps) κ)) 0)
   without-step κ p ps Less e a h ih = ap (λ l. p ∷ l) (ih h)
-  without-step κ p ps Equal e a h ih = without-none κ ps (none-beyond κ (keys ps) (apart-equal (p .0) κ (keys ps) e a))
+  without-step κ p ps Equal e a h ih = without-none κ ps (none-beyond total-order κ (keys ps) (apart-equal (p .0) κ (keys ps) e a))
   without-step κ p ps Greater e a h ih =
-      absurd (true≢false (sym h ∙ none-beyond κ (keys ps) (apart-greater (p .0) κ (keys ps) e a)))
+      absurd (true≢false (sym h ∙ none-beyond total-order κ (keys ps) (apart-greater (p .0) κ (keys ps) e a)))
 
   -- the pair under a key comes out at the key's place
   pub without-at : (κ : Bytes) (ps : List (Bytes × A)) → Ascending (keys ps) → holds order (keys ps) κ ≡ true → without κ ps ≡ removed ps (place order (keys ps) κ)
@@ -110,7 +102,7 @@ next-step At x k ks Equal e a ih = refl
 next-step Beyond x k ks Equal e a ih = first-beyond x ks (apart-equal k x ks e a)
 next-step At x k ks Greater e a ih = refl
 next-step Beyond x k ks Greater e a ih =
-    ap (λ b. nth (k ∷ ks) (next-place Beyond b 0)) (sym (none-beyond x ks (apart-greater k x ks e a)))
+    ap (λ b. nth (k ∷ ks) (next-place Beyond b 0)) (sym (none-beyond total-order x ks (apart-greater k x ks e a)))
 
 pub next-at : (mark : PositionMark) (x : Bytes) (ks : List Bytes) → Ascending ks → next mark x ks ≡ nth ks (next-place mark (holds order ks x) (place order ks x))
 unfolding next holds place

@@ -1,7 +1,6 @@
 // The refusals of the files below, each with its number.
 ghost use mathlib.Core.Path.{_≡_};
 ghost use Rattle.storage.specs.Faults.{primary-number, row-number, absent-number, row-fault};
-
 use ordered_table::InsertFault;
 
 // No pair has the key.

@@ -5,7 +5,6 @@ ghost use Rattle.std.specs.Results.{Cases};
 ghost use Rattle.storage.specs.Checks.{first, settled};
 ghost use Rattle.storage.specs.Rows.{limit-checks};
 ghost use Rattle.storage.specs.Spaces.{space-verdict};
-
 use crate::faults::RowFault;
 use crate::limits::check_row_limit;
 
@@ -17,12 +16,17 @@ pub struct RowSpace<'a, C> {
 impl<'a, C> RowSpace<'a, C> {
     // The first cells of the memory, as many as the limit says. A limit outside 1 to 16,384, or above what the memory
     // holds, is refused and the memory handed back.
-    pub fn new(memory: &'a mut [C], limit: usize) -> Result<RowSpace<'a, C>, (&'a mut [C], RowFault)>
+    pub fn new(
+        memory: &'a mut [C],
+        limit: usize,
+    ) -> Result<RowSpace<'a, C>, (&'a mut [C], RowFault)>
         ensures value { λ r. ⌜ space-verdict r ≡ settled (first (limit-checks limit (length (now (memory .entry))))) ⌝ }
         ensures cases { λ r. ⌜ Cases r (λ space. space .cells .now ≡ take limit (now (memory .entry))) (λ back. back .0 .now ≡ now (memory .entry)) ⌝ }
     {
         match check_row_limit(limit, memory.len()) {
-            Ok(()) => Ok(RowSpace { cells: &mut memory[0..limit] }),
+            Ok(()) => Ok(RowSpace {
+                cells: &mut memory[0..limit],
+            }),
             Err(fault) => Err((memory, fault)),
         }
     }

@@ -1,18 +1,15 @@
 use borrow.Author.Needs.{needs}
 use mathlib.Core.Path.{_≡_, refl, sym, ap, subst, _∙_}
 use mathlib.Core.Bool.{cond}
-use mathlib.Core.List.{List, _++_}
 use Prim.Native.Nat.{ℕ, pred, _+_, _-_, _<_, _≤_, min}
 use native.Mathlib.Omega.{arith}
 use native.Mathlib.Numerals.{sub-one}
 use lib.ListN.{length, take, drop}
 use Rattle.std.specs.declared.option.Option.the-variants.{Some, None}
-use Rattle.std.specs.shelf.Lists.{removed}
-use Rattle.std.proofs.shelf.Edits.{length-removed}
-use Rattle.std.proofs.shelf.Lists.{same-lists, places, length-take, length-drop, take-at}
+use Rattle.std.proofs.shelf.Lists.{same-lists, places, length-take, length-drop}
 use Rattle.ordered_table.specs.Table.{Ascending, holds, place}
 use Rattle.ordered_table.proofs.Edits.{ascending-cut}
-use Rattle.ordered_table.proofs.Places.{not-there, is-there}
+use Rattle.ordered_table.proofs.Outcomes.{not-there, is-there, front-removed}
 use Rattle.ordered_table.proofs.remove.Needs as need
 
 pub returns-in-rest : need.returns-in-rest
@@ -57,19 +54,17 @@ returns g c =
     let at = c .in-Ok .at in
     let xs = take used cells in
     let b : at < length xs = c .in-Ok .ensures tt .bound in
-    let n = length-take used cells in
     let after =
-    same-lists _ _ (search (needs, places)) (λ k d h. let e = c .rotate-left .ensures .places in grind (arith, places)) in
-    let m = length-removed xs at b in
-    let less-one : length (removed xs at) ≡ min used (length cells) - 1 = omega arith in
-    let short : length (removed xs at) ≡ pred (min used (length cells)) = less-one ∙ sub-one (min used (length cells)) in
+        same-lists _ _ (search (needs, places)) (λ k d h. let e = c .rotate-left .ensures .places in let n = length-take used cells in grind (arith, places)) in
+    let n = length-take used cells in
+    let less : pred (min used (length cells)) + 1 ≡ length xs = rw (← sub-one) (omega arith) in
     record {
       after = after;
       value = λ o up.
-          let f = is-there (holds (o .cmp) xs (c .args .probe .now)) (place (o .cmp) xs (c .args .probe .now)) at (c .in-Ok .ensures tt .value o up) in
-          sym (λ t. cond (f .0 t) (Some (f .1 t)) None);
+        let f = is-there (holds (o .cmp) xs (c .args .probe .now)) (place (o .cmp) xs (c .args .probe .now)) at (c .in-Ok .ensures tt .value o up) in
+        sym (λ t. cond (f .0 t) (Some (f .1 t)) None);
       ascending = λ o up.
-          subst (λ ys. Ascending (o .cmp) ys)
-          (sym (ap (take (pred (min used (length cells)))) after ∙ take-at (removed xs at) (take 1 (drop at cells) ++ drop used cells) (pred (min used (length cells))) short))
-          (ascending-cut (o .cmp) xs at up);
+        subst (λ ys. Ascending (o .cmp) ys)
+        (sym (ap (take (pred (min used (length cells)))) after ∙ front-removed cells used at (pred (min used (length cells))) b less))
+        (ascending-cut (o .cmp) xs at up);
     }

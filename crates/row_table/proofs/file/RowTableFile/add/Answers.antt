@@ -16,30 +16,21 @@ use Rattle.storage.specs.Rows.{bare}
 use Rattle.storage.proofs.Bare.{row-passed, add-done, add-leaves}
 use Rattle.row_table.specs.Cells.{rows-in}
 use Rattle.row_table.specs.Tables.{rows}
-use Rattle.row_table.proofs.Changes.{inserting, add-refused, added}
+use Rattle.row_table.proofs.Changes.{not-added, added}
 use Rattle.row_table.proofs.Sought.{length-rows}
 use Rattle.row_table.proofs.file.RowTableFile.add.Needs as need
 
 pub returns-in-Break-outcome : need.returns-in-Break-outcome
 returns-in-Break-outcome c =
     let t = c .args .self .now in
-    let row = c .args .row .now in
     let lent : c .take-cells .result .now ≡ t .cells .now = ap (λ x. x .now) (c .take-cells .ensures .value) in
-    let ok = row-passed row _ (c .in-Continue-check-row .ensures tt) in
-    let f = c .in-Break-outcome .field-0 .0 in
+    let ok = row-passed (c .args .row .now) _ (c .in-Continue-check-row .ensures tt) in
     let told = c .in-Break-outcome .ensures tt in
     let p = err-from-errBy (c .from-residual-in-Break-outcome .result) (c .from-residual-in-Break-outcome .ensures .1) in
-    let r : c .from-residual-in-Break-outcome .result ≡ Err (p .0) = p .1 in
     let same = told .after ∙ lent in
     record {
-      value =
-        r
-        ∙ (ap Err (p .2)
-        ∙ add-refused (t .cells .now) (t .used) row (c .front-of .result) (c .front-of .ensures) (ok .1) f (t .within) (ok .0)
-          (inserting (c .take-cells .result .now) (t .cells .now) lent (t .used) (t .ascending) (c .front-of .result) (Err f) (told .value)));
-      after =
-        ap (λ xs. bare (rows-in xs (t .used))) same
-        ∙ sym (ap (λ x. leaves x (placed row [] (bare (rows t))) (bare (rows t))) r);
+      value = p .1 ∙ (ap Err (p .2) ∙ not-added (c .take-cells .result .now) (t .cells .now) lent (t .used) (t .ascending) (t .within) (c .args .row .now) (c .front-of .result) (c .front-of .ensures) (ok .1) (c .in-Break-outcome .field-0 .0) (ok .0) (told .value));
+      after = ap (λ xs. bare (rows-in xs (t .used))) same ∙ sym (ap (λ x. leaves x (placed (c .args .row .now) [] (bare (rows t))) (bare (rows t))) (p .1));
       same = ap length same;
     }
 
@@ -48,7 +39,7 @@ ghost-self-2 c =
     let t = c .args .self .now in
     let lent : c .take-cells .result .now ≡ t .cells .now = ap (λ x. x .now) (c .take-cells .ensures .value) in
     let ok = row-passed (c .args .row .now) _ (c .in-Continue-check-row .ensures tt) in
-    let a = added (c .take-cells .result .now) (t .cells .now) lent (t .used) (t .ascending) (c .args .row .now) (c .front-of .result) (c .front-of .ensures) (ok .1) (t .within) (c .insert-outcome .last .cells) (c .in-Continue-outcome .field-0) (c .in-Continue-outcome .ensures tt .value) (c .in-Continue-outcome .ensures tt .after) in
+    let a = added (c .take-cells .result .now) (t .cells .now) lent (t .used) (t .ascending) (t .within) (c .args .row .now) (c .front-of .result) (c .front-of .ensures) (ok .1) (c .insert-outcome .last .cells) (c .in-Continue-outcome .field-0) (c .in-Continue-outcome .ensures tt .value) (c .in-Continue-outcome .ensures tt .after) in
     let n = ap length lent in
     let k = c .insert-outcome .kept .cells in
     (omega (arith, a .1),
@@ -59,7 +50,7 @@ returns c =
     let t = c .args .self .now in
     let lent : c .take-cells .result .now ≡ t .cells .now = ap (λ x. x .now) (c .take-cells .ensures .value) in
     let ok = row-passed (c .args .row .now) _ (c .in-Continue-check-row .ensures tt) in
-    let a = added (c .take-cells .result .now) (t .cells .now) lent (t .used) (t .ascending) (c .args .row .now) (c .front-of .result) (c .front-of .ensures) (ok .1) (t .within) (c .insert-outcome .last .cells) (c .in-Continue-outcome .field-0) (c .in-Continue-outcome .ensures tt .value) (c .in-Continue-outcome .ensures tt .after) in
+    let a = added (c .take-cells .result .now) (t .cells .now) lent (t .used) (t .ascending) (t .within) (c .args .row .now) (c .front-of .result) (c .front-of .ensures) (ok .1) (c .insert-outcome .last .cells) (c .in-Continue-outcome .field-0) (c .in-Continue-outcome .ensures tt .value) (c .in-Continue-outcome .ensures tt .after) in
     let n = ap length lent in
     let k = c .insert-outcome .kept .cells in
     let m = length-rows (t .cells .now) (t .used) (t .within) in

@@ -1,7 +1,7 @@
 use mathlib.Core.Path.{sym}
 use Rattle.byte_strings.specs.Bytes.{order}
 use Rattle.ordered_table.specs.Table.{holds, place}
-use Rattle.ordered_table.proofs.Places.{is-there, not-there}
+use Rattle.ordered_table.proofs.Outcomes.{is-there, not-there}
 use Rattle.storage.proofs.Bare.{fetch-held, fetch-absent}
 use Rattle.row_table.specs.Tables.{rows}
 use Rattle.row_table.proofs.file.RowTableReading.fetch.Needs as need

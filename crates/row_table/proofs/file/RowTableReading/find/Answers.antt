@@ -7,7 +7,8 @@ use lib.ListN.{length, getD}
 use Rattle.std.specs.declared.option.Option.the-variants.{Some}
 use Rattle.byte_strings.specs.Bytes.{order}
 use Rattle.ordered_table.specs.Table.{holds, place}
-use Rattle.ordered_table.proofs.Places.{is-there, place-lt}
+use Rattle.ordered_table.proofs.Outcomes.{is-there}
+use Rattle.ordered_table.proofs.Places.{place-lt}
 use Rattle.storage.specs.Places.{next-place}
 use Rattle.storage.specs.Reading.{found, filled}
 use Rattle.storage.proofs.Bare.{find-some, find-none}
@@ -32,10 +33,11 @@ returns-then-at-used c =
     let h = holds order (rows t) (c .args .from .now) in
     let p = place order (rows t) (c .args .from .now) in
     let at : c .match-seek .at ≡ next-place (c .args .mark) h p =
-        elim (c .match-seek .came) [
-          in-Ok-Beyond w ↦ w .at-is ∙ next-beyond (c .args .mark) h p (w .in-Ok-Beyond .at) (w .in-Ok-Beyond .is-1) (w .in-Ok-Beyond .ensures tt)
-          | in-Ok-At w ↦ w .at-is ∙ next-here (c .args .mark) h p (w .in-Ok-At .at) (w .in-Ok-At .is-1) (w .in-Ok-At .ensures tt)
-          | in-Err-rest w ↦ w .at-is ∙ next-missed (c .args .mark) h p (w .in-Err-rest .at) (w .in-Err-rest .ensures tt) ] in
+    elim (c .match-seek .came) [
+      | in-Ok-Beyond w ↦ w .at-is ∙ next-beyond (c .args .mark) h p (w .in-Ok-Beyond .at) (w .in-Ok-Beyond .is-1) (w .in-Ok-Beyond .ensures tt)
+      | in-Ok-At w ↦ w .at-is ∙ next-here (c .args .mark) h p (w .in-Ok-At .at) (w .in-Ok-At .is-1) (w .in-Ok-At .ensures tt)
+      | in-Err-rest w ↦ w .at-is ∙ next-missed (c .args .mark) h p (w .in-Err-rest .at) (w .in-Err-rest .ensures tt)
+    ] in
     let n = length-rows (t .cells .now) (t .used) (t .within) in
     let none = find-none (rows t) (c .args .from .now) (c .args .mark) (c .match-seek .at) (t .ascending) at (omega arith) in
     record { value = sym (ap found none); after = sym (ap (λ o. filled o (c .args .key .now)) none) }
@@ -46,10 +48,11 @@ returns c =
     let h = holds order (rows t) (c .args .from .now) in
     let p = place order (rows t) (c .args .from .now) in
     let at : c .match-seek .at ≡ next-place (c .args .mark) h p =
-        elim (c .match-seek .came) [
-          in-Ok-Beyond w ↦ w .at-is ∙ next-beyond (c .args .mark) h p (w .in-Ok-Beyond .at) (w .in-Ok-Beyond .is-1) (w .in-Ok-Beyond .ensures tt)
-          | in-Ok-At w ↦ w .at-is ∙ next-here (c .args .mark) h p (w .in-Ok-At .at) (w .in-Ok-At .is-1) (w .in-Ok-At .ensures tt)
-          | in-Err-rest w ↦ w .at-is ∙ next-missed (c .args .mark) h p (w .in-Err-rest .at) (w .in-Err-rest .ensures tt) ] in
+    elim (c .match-seek .came) [
+      | in-Ok-Beyond w ↦ w .at-is ∙ next-beyond (c .args .mark) h p (w .in-Ok-Beyond .at) (w .in-Ok-Beyond .is-1) (w .in-Ok-Beyond .ensures tt)
+      | in-Ok-At w ↦ w .at-is ∙ next-here (c .args .mark) h p (w .in-Ok-At .at) (w .in-Ok-At .is-1) (w .in-Ok-At .ensures tt)
+      | in-Err-rest w ↦ w .at-is ∙ next-missed (c .args .mark) h p (w .in-Err-rest .at) (w .in-Err-rest .ensures tt)
+    ] in
     let n = length-rows (t .cells .now) (t .used) (t .within) in
     let row = row-at (t .cells .now) (t .used) (c .match-seek .at) (c .index-cells-at .result) (c .if-at-used .left) (t .within) (c .index-cells-at .is) in
     let some = find-some (rows t) (c .args .from .now) (c .args .mark) (c .match-seek .at) (t .ascending) at (omega arith) ∙ ap Some (row ∙ sym (c .as-slice-row .ensures)) in
