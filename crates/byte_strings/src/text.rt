@@ -55,7 +55,7 @@ pub impl<const N: usize> PartialOrd<ByteString<N>> for ByteString<N> as ByteStri
     ghost compares = { λ x y r. SomeBy r (λ k. k ≡ order (text x) (text y)) };
 
     fn partial_cmp(&self, other: &ByteString<N>) -> Option<Ordering> {
-        Some(compare(self.as_slice(), other.as_slice()))
+        Some(self.cmp(other))
     }
 }
 

@@ -51,4 +51,4 @@ module _ (probe : DirectoryEntry) where
   entry-held (e ∷ es) d up h =
       ap (λ b. cond b (Some e) (entry-of (probe .number) es)) (sym (unsigned-tied (e .number) (probe .number)))
       ∙ held-step e d es (by-number e probe) refl (left (beyond number-order e es) (sorted-test by-number es) up) h
-        (entry-held es d (right (beyond number-order e es) (sorted-test by-number es) up))
+      (entry-held es d (right (beyond number-order e es) (sorted-test by-number es) up))

@@ -83,12 +83,13 @@ module _ (lent cells : List (ByteString 66)) (e : lent ≡ cells) (used : ℕ) (
     pub added : ((o : Total By-text) → Ascending (o .cmp) (take used lent) → Ok at ≡ insertion (o .cmp) (length lent) used (take used lent) entry) → after ≡ inserted-by (Ok at) lent used entry → (holds order rows row ≡ false) × (used < length cells) × (rows-in after (used + 1) ≡ inserted rows (place order rows row) row)
     added v left =
         let f = insertion-accepted (by-key text order) xs entry (length cells) used at (inserting (Ok at) v) in
-        let le : at ≤ length xs = subst (λ i. i ≤ length xs) (f .2) (place-le (by-key text order) xs entry) in
-        (sym there ∙ f .0,
-         f .1,
-         ap (λ ys. map text (take (used + 1) ys)) (left ∙ ap (λ ys. inserted-by (Ok at) ys used entry) e)
-         ∙ (ap (map text) (front-inserted cells used at entry le (f .1))
-         ∙ (map-inserted text xs at entry ∙ (λ t. inserted rows ((sym (f .2) ∙ stands) t) ((is ∙ take-all 66 row fits) t)))))
+        let le : at ≤ length xs = subst (λ i. i ≤ length xs) (f .2) (place-le (by-key text order) xs entry) in (
+          sym there ∙ f .0,
+          f .1,
+          ap (λ ys. map text (take (used + 1) ys)) (left ∙ ap (λ ys. inserted-by (Ok at) ys used entry) e)
+              ∙ (ap (map text) (front-inserted cells used at entry le (f .1))
+              ∙ (map-inserted text xs at entry ∙ (λ t. inserted rows ((sym (f .2) ∙ stands) t) ((is ∙ take-all 66 row fits) t)))),
+        )
 
     -- the row was there, and the rows are those before without it
     pub dropped : ((o : Total By-text) → Ascending (o .cmp) (take used lent) → Some at ≡ removal (o .cmp) (take used lent) entry) → after ≡ removed-by (Some at) lent used → (holds order rows row ≡ true) × (0 < used) × (rows-in after (used - 1) ≡ removed rows (place order rows row))
@@ -96,8 +97,9 @@ module _ (lent cells : List (ByteString 66)) (e : lent ≡ cells) (used : ℕ) (
         let f = removal-accepted (by-key text order) xs entry at (removing (Some at) v) in
         let lt : at < length xs = subst (λ i. i < length xs) (f .1) (place-lt (by-key text order) xs entry (f .0)) in
         let n = length-take used cells in
-        let less : used - 1 + 1 ≡ length xs = omega arith in
-        (sym there ∙ f .0,
-         omega arith,
-         ap (λ ys. map text (take (used - 1) ys)) (left ∙ ap (λ ys. removed-by (Some at) ys used) e)
-         ∙ (ap (map text) (front-removed cells used at (used - 1) lt less) ∙ (map-removed text xs at ∙ ap (removed rows) (sym (f .1) ∙ stands))))
+        let less : used - 1 + 1 ≡ length xs = omega arith in (
+          sym there ∙ f .0,
+          omega arith,
+          ap (λ ys. map text (take (used - 1) ys)) (left ∙ ap (λ ys. removed-by (Some at) ys used) e)
+              ∙ (ap (map text) (front-removed cells used at (used - 1) lt less) ∙ (map-removed text xs at ∙ ap (removed rows) (sym (f .1) ∙ stands))),
+        )

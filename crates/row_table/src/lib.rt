@@ -1,7 +1,9 @@
 // A key-row file that keeps its rows in the ordered table, over memory that the caller lends.
-mod file;
+mod reading;
+mod rows;
+mod seek;
 mod table;
 
-pub use file::RowTableFile;
-pub use file::RowTableReading;
+pub use reading::RowTableReading;
+pub use rows::RowTableFile;
 pub use table::RowTable;

@@ -22,8 +22,8 @@ returns-in-rest g c =
     record {
       after = refl;
       value = λ o up.
-        let f = is-there (holds (o .cmp) xs x) (place (o .cmp) xs x) (c .in-rest .field-0) (c .in-rest .ensures tt .value o up) in
-        sym (ap (λ t. cond t (Err Present) (cond (leb (length (c .args .cells .now)) (c .args .used)) (Err Full) (Ok (place (o .cmp) xs x)))) (f .0));
+          let f = is-there (holds (o .cmp) xs x) (place (o .cmp) xs x) (c .in-rest .field-0) (c .in-rest .ensures tt .value o up) in
+          sym (ap (λ t. cond t (Err Present) (cond (leb (length (c .args .cells .now)) (c .args .used)) (Err Full) (Ok (place (o .cmp) xs x)))) (f .0));
       ascending = λ o up. up;
     }
 
@@ -35,8 +35,8 @@ returns-then-used-cells g c =
     record {
       after = refl;
       value = λ o up.
-        let f = not-there (holds (o .cmp) xs x) (place (o .cmp) xs x) (c .in-Err .at) (c .in-Err .ensures tt .value o up) in
-        sym (λ t. cond (f .0 t) (Err Present) (cond (full t) (Err Full) (Ok (f .1 t))));
+          let f = not-there (holds (o .cmp) xs x) (place (o .cmp) xs x) (c .in-Err .at) (c .in-Err .ensures tt .value o up) in
+          sym (λ t. cond (f .0 t) (Err Present) (cond (full t) (Err Full) (Ok (f .1 t))));
       ascending = λ o up. up;
     }
 
@@ -49,15 +49,15 @@ returns g c =
     let xs = take used cells in
     let room = lt-leb (length cells) used (c .if-used-cells .left) in
     let after =
-        same-lists _ _ (search (needs, places)) (λ k d h. let e = c .rotate-right .ensures .places in let s = cases-eq k at in grind (arith, places, getD-set-same)) in
+    same-lists _ _ (search (needs, places)) (λ k d h. let e = c .rotate-right .ensures .places in let s = cases-eq k at in grind (arith, places, getD-set-same)) in
     record {
       after = after;
       value = λ o up.
-        let f = not-there (holds (o .cmp) xs x) (place (o .cmp) xs x) at (c .in-Err .ensures tt .value o up) in
-        sym (λ t. cond (f .0 t) (Err Present) (cond (room t) (Err Full) (Ok (f .1 t))));
+          let f = not-there (holds (o .cmp) xs x) (place (o .cmp) xs x) at (c .in-Err .ensures tt .value o up) in
+          sym (λ t. cond (f .0 t) (Err Present) (cond (room t) (Err Full) (Ok (f .1 t))));
       ascending = λ o up.
-        let f = not-there (holds (o .cmp) xs x) (place (o .cmp) xs x) at (c .in-Err .ensures tt .value o up) in
-        subst (λ ys. Ascending (o .cmp) ys)
-        (sym (ap (take (used + 1)) after ∙ front-inserted cells used at x (c .in-Err .ensures tt .bound) (c .if-used-cells .left)))
-        (subst (λ i. Ascending (o .cmp) (inserted xs i x)) (f .1) (ascending-put o xs x up (f .0)));
+          let f = not-there (holds (o .cmp) xs x) (place (o .cmp) xs x) at (c .in-Err .ensures tt .value o up) in
+          subst (λ ys. Ascending (o .cmp) ys)
+          (sym (ap (take (used + 1)) after ∙ front-inserted cells used at x (c .in-Err .ensures tt .bound) (c .if-used-cells .left)))
+          (subst (λ i. Ascending (o .cmp) (inserted xs i x)) (f .1) (ascending-put o xs x up (f .0)));
     }

@@ -55,16 +55,16 @@ returns g c =
     let xs = take used cells in
     let b : at < length xs = c .in-Ok .ensures tt .bound in
     let after =
-        same-lists _ _ (search (needs, places)) (λ k d h. let e = c .rotate-left .ensures .places in let n = length-take used cells in grind (arith, places)) in
+    same-lists _ _ (search (needs, places)) (λ k d h. let e = c .rotate-left .ensures .places in let n = length-take used cells in grind (arith, places)) in
     let n = length-take used cells in
     let less : pred (min used (length cells)) + 1 ≡ length xs = rw (← sub-one) (omega arith) in
     record {
       after = after;
       value = λ o up.
-        let f = is-there (holds (o .cmp) xs (c .args .probe .now)) (place (o .cmp) xs (c .args .probe .now)) at (c .in-Ok .ensures tt .value o up) in
-        sym (λ t. cond (f .0 t) (Some (f .1 t)) None);
+          let f = is-there (holds (o .cmp) xs (c .args .probe .now)) (place (o .cmp) xs (c .args .probe .now)) at (c .in-Ok .ensures tt .value o up) in
+          sym (λ t. cond (f .0 t) (Some (f .1 t)) None);
       ascending = λ o up.
-        subst (λ ys. Ascending (o .cmp) ys)
-        (sym (ap (take (pred (min used (length cells)))) after ∙ front-removed cells used at (pred (min used (length cells))) b less))
-        (ascending-cut (o .cmp) xs at up);
+          subst (λ ys. Ascending (o .cmp) ys)
+          (sym (ap (take (pred (min used (length cells)))) after ∙ front-removed cells used at (pred (min used (length cells))) b less))
+          (ascending-cut (o .cmp) xs at up);
     }

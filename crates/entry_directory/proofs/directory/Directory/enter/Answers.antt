@@ -51,7 +51,7 @@ returns c =
     record {
       value = value;
       listed =
-        ap (take (d .used + 1)) (told .after ∙ ap (λ xs. inserted-by (Ok at) xs (d .used) (c .args .entry)) lent)
-        ∙ front-inserted (d .cells .now) (d .used) at (c .args .entry) le (f .1);
+          ap (take (d .used + 1)) (told .after ∙ ap (λ xs. inserted-by (Ok at) xs (d .used) (c .args .entry)) lent)
+          ∙ front-inserted (d .cells .now) (d .used) at (c .args .entry) le (f .1);
       room = omega arith;
     }

@@ -4,7 +4,7 @@ use Rattle.ordered_table.specs.Table.{holds, place}
 use Rattle.ordered_table.proofs.Outcomes.{is-there, not-there}
 use Rattle.storage.proofs.Bare.{fetch-held, fetch-absent}
 use Rattle.row_table.specs.Tables.{rows}
-use Rattle.row_table.proofs.file.RowTableReading.fetch.Needs as need
+use Rattle.row_table.proofs.reading.RowTableReading.fetch.Needs as need
 
 pub returns-in-Ok : need.returns-in-Ok
 returns-in-Ok c =

@@ -18,7 +18,7 @@ use Rattle.row_table.specs.Cells.{rows-in}
 use Rattle.row_table.specs.Tables.{rows}
 use Rattle.row_table.proofs.Changes.{not-added, added}
 use Rattle.row_table.proofs.Sought.{length-rows}
-use Rattle.row_table.proofs.file.RowTableFile.add.Needs as need
+use Rattle.row_table.proofs.rows.RowTableFile.add.Needs as need
 
 pub returns-in-Break-outcome : need.returns-in-Break-outcome
 returns-in-Break-outcome c =
@@ -41,9 +41,10 @@ ghost-self-2 c =
     let ok = row-passed (c .args .row .now) _ (c .in-Continue-check-row .ensures tt) in
     let a = added (c .take-cells .result .now) (t .cells .now) lent (t .used) (t .ascending) (t .within) (c .args .row .now) (c .front-of .result) (c .front-of .ensures) (ok .1) (c .insert-outcome .last .cells) (c .in-Continue-outcome .field-0) (c .in-Continue-outcome .ensures tt .value) (c .in-Continue-outcome .ensures tt .after) in
     let n = ap length lent in
-    let k = c .insert-outcome .kept .cells in
-    (omega (arith, a .1),
-     (subst (Ascending order) (sym (a .2)) (ascending-put total-order (rows t) (c .args .row .now) (t .ascending) (a .0)), tt))
+    let k = c .insert-outcome .kept .cells in (
+      omega (arith, a .1),
+      (subst (Ascending order) (sym (a .2)) (ascending-put total-order (rows t) (c .args .row .now) (t .ascending) (a .0)), tt),
+    )
 
 pub returns : need.returns
 returns c =

@@ -14,8 +14,8 @@ use Rattle.storage.specs.Reading.{found, filled}
 use Rattle.storage.proofs.Bare.{find-some, find-none}
 use Rattle.row_table.specs.Tables.{rows}
 use Rattle.row_table.proofs.Sought.{length-rows, row-at, next-beyond, next-here, next-missed}
-use Rattle.row_table.proofs.file.RowTableReading.find.Needs as need
-use Rattle.row_table.proofs.file.RowTableReading.find.Needs.{in-Ok-Beyond, in-Ok-At, in-Err-rest}
+use Rattle.row_table.proofs.reading.RowTableReading.find.Needs as need
+use Rattle.row_table.proofs.reading.RowTableReading.find.Needs.{in-Ok-Beyond, in-Ok-At, in-Err-rest}
 
 pub add-at : need.add-at
 add-at c =

@@ -11,7 +11,7 @@ use Rattle.row_table.specs.Cells.{rows-in}
 use Rattle.row_table.specs.Tables.{rows}
 use Rattle.row_table.proofs.Changes.{not-dropped, dropped}
 use Rattle.row_table.proofs.Sought.{long-absent}
-use Rattle.row_table.proofs.file.RowTableFile.drop_row.Needs as need
+use Rattle.row_table.proofs.rows.RowTableFile.drop_row.Needs as need
 
 pub returns-then-row-gt-LONGEST-ROW : need.returns-then-row-gt-LONGEST-ROW
 returns-then-row-gt-LONGEST-ROW c =
@@ -43,9 +43,10 @@ ghost-self-2 c =
     let lent : c .take-cells .result .now ≡ t .cells .now = ap (λ x. x .now) (c .take-cells .ensures .value) in
     let d = dropped (c .take-cells .result .now) (t .cells .now) lent (t .used) (t .ascending) (t .within) (c .args .row .now) (c .front-of .result) (c .front-of .ensures) (c .if-row-gt-LONGEST-ROW .left) (c .remove-outcome .last .cells) (c .in-Some .field-0) (c .in-Some .ensures tt .value) (c .in-Some .ensures tt .after) in
     let n = ap length lent in
-    let k = c .remove-outcome .kept .cells in
-    (omega arith,
-     (subst (Ascending order) (sym (d .2)) (ascending-cut order (rows t) (place order (rows t) (c .args .row .now)) (t .ascending)), tt))
+    let k = c .remove-outcome .kept .cells in (
+      omega arith,
+      (subst (Ascending order) (sym (d .2)) (ascending-cut order (rows t) (place order (rows t) (c .args .row .now)) (t .ascending)), tt),
+    )
 
 pub returns : need.returns
 returns c =

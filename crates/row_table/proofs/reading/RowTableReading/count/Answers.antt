@@ -2,7 +2,7 @@ use mathlib.Core.Path.{sym, _∙_}
 use Rattle.storage.proofs.Bare.{length-bare}
 use Rattle.row_table.specs.Tables.{rows}
 use Rattle.row_table.proofs.Sought.{length-rows}
-use Rattle.row_table.proofs.file.RowTableReading.count.Needs as need
+use Rattle.row_table.proofs.reading.RowTableReading.count.Needs as need
 
 pub returns : need.returns
 returns c =
