@@ -1,3 +1,4 @@
 pub mod LongProbes
 pub mod StringOrder
 pub mod TotalOrder
+mod Copies

@@ -1,6 +1,6 @@
 // What a bounded byte string holds, and its order.
 ghost use mathlib.Core.Path.{_≡_};
-ghost use mathlib.Core.List.{[]};
+ghost use mathlib.Core.List.{[], _++_};
 ghost use lib.ListN.{take};
 ghost use Rattle.std.specs.Options.{SomeBy};
 ghost use Rattle.std.specs.Orderings.{Decides};
@@ -21,16 +21,27 @@ impl<const N: usize> ByteString<N> {
         }
     }
 
+    // The bytes of both, one string behind the other, as many as there is room for.
+    pub fn joined(front: &[u8], rest: &[u8]) -> ByteString<N>
+        ensures { λ r. ⌜ text r ≡ take N (now (front .entry) ++ now (rest .entry)) ⌝ }
+    {
+        let n = front.len().min(N);
+        let m = rest.len().min(N - n);
+        let mut all = [0; N];
+        for i in 0..n {
+            all[i] = front[i];
+        }
+        for j in 0..m {
+            all[n + j] = rest[j];
+        }
+        ByteString { bytes: all, len: n + m }
+    }
+
     // The first bytes, as many as there is room for.
     pub fn front_of(bytes: &[u8]) -> ByteString<N>
         ensures { λ r. ⌜ text r ≡ take N (now (bytes .entry)) ⌝ }
     {
-        let len = bytes.len().min(N);
-        let mut all = [0; N];
-        for i in 0..len {
-            all[i] = bytes[i];
-        }
-        ByteString { bytes: all, len }
+        ByteString::joined(bytes, &[])
     }
 
     pub fn as_slice(&self) -> &[u8]

@@ -9,6 +9,7 @@ use crate::faults::RowFault;
 use crate::limits::check_row_limit;
 
 // As many cells as the file made of them is to hold rows.
+#[derive(Drop)]
 pub struct RowSpace<'a, C> {
     cells: &'a mut [C],
 }
