@@ -25,7 +25,7 @@ module _ (all front rest : List ℕ) (n : ℕ) where
       let back : n + j - n ≡ j = omega arith in
       let le : n ≤ n + j = omega arith in
       let same : getD (front ++ rest) (n + j) 0 ≡ getD rest j 0 =
-          getD-append-right front rest n (n + j) 0 (sym f) le ∙ ap (λ k. getD rest k 0) back in
+      getD-append-right front rest n (n + j) 0 (sym f) le ∙ ap (λ k. getD rest k 0) back in
       subst (λ m. take m (set all (n + j) (getD rest j 0)) ≡ take m (front ++ rest)) next
       (subst (λ v. take (n + j + 1) (set all (n + j) v) ≡ take (n + j + 1) (front ++ rest)) same (copied-more all (front ++ rest) (n + j) l inside e))
 
@@ -33,8 +33,8 @@ module _ (all front rest : List ℕ) (n : ℕ) where
   join-all m N p q =
       ⊎-elim
       (λ (h : length front + length rest < N).
-        let whole : length (front ++ rest) ≤ n + m = simp length-append (omega arith) in
-        let short : length (front ++ rest) ≤ N = simp length-append (omega arith) in
-        take-all (n + m) (front ++ rest) whole ∙ sym (take-all N (front ++ rest) short))
+      let whole : length (front ++ rest) ≤ n + m = simp length-append (omega arith) in
+      let short : length (front ++ rest) ≤ N = simp length-append (omega arith) in
+      take-all (n + m) (front ++ rest) whole ∙ sym (take-all N (front ++ rest) short))
       (λ (h : N ≤ length front + length rest). let cut : n + m ≡ N = omega arith in ap (λ k. take k (front ++ rest)) cut)
       (cases-lt (length front + length rest) N)

@@ -34,7 +34,10 @@ impl<const N: usize> ByteString<N> {
         for j in 0..m {
             all[n + j] = rest[j];
         }
-        ByteString { bytes: all, len: n + m }
+        ByteString {
+            bytes: all,
+            len: n + m,
+        }
     }
 
     // The first bytes, as many as there is room for.

@@ -27,6 +27,10 @@ pub right : (a b : Bool) → T (a && b) → T b
 right true b p = p
 right false b p = absurd p
 
+pub passes : (b : Bool) → T b → b ≡ true
+passes true t = refl
+passes false t = absurd t
+
 pub is-less : (o : Ordering) → T (isLt o) → o ≡ Less
 is-less Less h = refl
 is-less Equal h = absurd h

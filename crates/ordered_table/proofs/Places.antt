@@ -19,8 +19,9 @@ use Rattle.std.specs.Results.{Cases}
 use Rattle.std.specs.shelf.Lawful.{all-pass, sorted-test}
 use Rattle.std.proofs.shelf.Lawful.{sorted-from-test, less-from-sorted}
 use Rattle.std.proofs.shelf.Sorted.{searchable-from-ascends}
-use Rattle.std.proofs.shelf.Tests.{cases-lt}
+use Rattle.std.proofs.shelf.Tests.{cases-eq, cases-lt}
 use Rattle.ordered_table.specs.Table.{Ascending, holds, place, searched}
+use Rattle.ordered_table.proofs.Edits.{flipped}
 
 module _ {E : Type 0} (cmp : E → E → Ordering) where
   pub ordered : (xs : List E) (i j : ℕ) (d : E) → Ascending cmp xs → i < j → j < length xs → cmp (getD xs i d) (getD xs j d) ≡ Less
@@ -84,6 +85,15 @@ module _ {E : Type 0} {R : E → E → Ordering → Type 0} (o : Total R) where
       let before : (k : ℕ) → k < i → o .cmp (getD xs k d) x ≡ Less =
       λ k lt. sym (alike-right o (getD xs i d) x (getD xs k d) h) ∙ ordered (o .cmp) xs k i d up lt l in
       (holds-some (o .cmp) xs x d i l h, place-is (o .cmp) xs x d i (omega arith) before (λ _. ap isLt h))
+
+  -- from an entry that comes after x on, all do
+  pub greater-on : (xs : List E) (x d : E) (i : ℕ) → Ascending (o .cmp) xs → o .cmp (getD xs i d) x ≡ Greater → (k : ℕ) → i ≤ k → k < length xs → o .cmp (getD xs k d) x ≡ Greater
+  greater-on xs x d i up g k le l =
+      let first = flipped o (getD xs i d) x Greater g in
+      ⊎-elim
+      (λ same. ap (λ j. o .cmp (getD xs j d) x) same ∙ g)
+      (λ other. flipped o x (getD xs k d) Less (o .trans x (getD xs i d) (getD xs k d) first (ordered (o .cmp) xs i k d up (omega arith) l)))
+      (cases-eq k i)
 
   rises : (xs : List E) (x : E) → Ascending (o .cmp) xs → Rises (λ y. placed (o .cmp y x)) xs
   rises xs x up =

@@ -19,14 +19,13 @@ use Rattle.byte_strings.specs.declared.string.ByteString.{ByteString}
 use Rattle.byte_strings.specs.Bytes.{Bytes, order, below}
 use Rattle.byte_strings.specs.Texts.{text}
 use Rattle.byte_strings.proofs.TotalOrder.{total-order, order-itself}
-use Rattle.ordered_table.proofs.Edits.{left, right}
+use Rattle.ordered_table.proofs.Edits.{left, right, passes}
 use Rattle.ordered_table.proofs.Places.{found-at}
 use Rattle.storage.specs.declared.mark.PositionMark.{PositionMark}
 use Rattle.storage.specs.declared.mark.PositionMark.the-variants.{At, Beyond}
-use Rattle.storage.specs.Pairs.{Ascending, next}
+use Rattle.storage.specs.Pairs.{Ascending, next, short}
 use Rattle.storage.specs.Places.{next-place}
 use Rattle.storage.specs.Reading.{found, filled}
-use Rattle.storage.specs.Rows.{row-long}
 use Rattle.storage.proofs.Places.{next-at}
 
 -- ---- a key that came into a buffer of a row's length
@@ -57,18 +56,14 @@ next-key ks i up l =
     let f = found-at total-order ks x [] i up l (order-itself x) in
     next-at Beyond x ks up ∙ ((λ t. nth ks (next-place Beyond (f .0 t) (f .1 t))) ∙ ap (nth ks) (sym (add-one i)))
 
-passes : (b : Bool) → T b → b ≡ true
-passes true t = refl
-passes false t = absurd t
-
 -- a key that is no longer than a row is not cut
-pub whole-key : (ks : List Bytes) (i : ℕ) → T (row-long ks) → i < length ks → take 66 (getD ks i []) ≡ getD ks i []
+pub whole-key : (ks : List Bytes) (i : ℕ) → T (short 66 ks) → i < length ks → take 66 (getD ks i []) ≡ getD ks i []
 whole-key [] i h l = absurd (not-suc-le-zero l)
-whole-key (k ∷ ks) zero h l = take-all 66 k (leb-true (length k) 66 (passes (leb (length k) 66) (left (leb (length k) 66) (row-long ks) h)))
-whole-key (k ∷ ks) (suc i) h l = whole-key ks i (right (leb (length k) 66) (row-long ks) h) (le-of-suc-le-suc l)
+whole-key (k ∷ ks) zero h l = take-all 66 k (leb-true (length k) 66 (passes (leb (length k) 66) (left (leb (length k) 66) (short 66 ks) h)))
+whole-key (k ∷ ks) (suc i) h l = whole-key ks i (right (leb (length k) 66) (short 66 ks) h) (le-of-suc-le-suc l)
 
 -- one row more
-pub listed-more : (ks : List Bytes) (rows : List (ByteString 66)) (row : ByteString 66) (i : ℕ) (o : Option Bytes) → T (row-long ks) → i < length ks → map text rows ≡ take i ks → o ≡ nth ks i → text row ≡ take 66 (valueOr o []) → (map text (rows ++ row ∷ []) ≡ take (i + 1) ks) × (text row ≡ getD ks i [])
+pub listed-more : (ks : List Bytes) (rows : List (ByteString 66)) (row : ByteString 66) (i : ℕ) (o : Option Bytes) → T (short 66 ks) → i < length ks → map text rows ≡ take i ks → o ≡ nth ks i → text row ≡ take 66 (valueOr o []) → (map text (rows ++ row ∷ []) ≡ take (i + 1) ks) × (text row ≡ getD ks i [])
 listed-more ks rows row i o h l m n r =
     let is : text row ≡ getD ks i [] = r ∙ (ap (λ p. take 66 (valueOr p [])) (n ∙ nth-getD ks i [] l) ∙ whole-key ks i h l) in
     (map-push text rows row ∙ ((λ t. m t ++ is t ∷ []) ∙ sym (take-more ks i [] l)), is)

@@ -7,9 +7,7 @@ ghost use Rattle.std.specs.Options.{valueOr};
 ghost use Rattle.std.specs.Of.Vec.{vec-items};
 ghost use Rattle.std.specs.Vec.{made};
 ghost use Rattle.byte_strings.specs.Texts.{text};
-ghost use Rattle.storage.specs.Pairs.{keys, next};
-ghost use Rattle.storage.specs.Rows.{row-long};
-
+ghost use Rattle.storage.specs.Pairs.{keys, next, short};
 use std::alloc::AllocError;
 use std::alloc::Global;
 use storage::KeyRow;
@@ -20,7 +18,7 @@ use storage::PositionMark;
 // Each key is the lowest above the one before, so where none is longer than a row the list is the file's keys, each
 // once and ascending.
 pub fn list_rows<R: OrderedReading>(heap: Global, file: &R) -> Result<Vec<KeyRow>, AllocError>
-    ensures { λ r. ⌜ made r (λ rows. T (row-long (keys (R·OrderedReading .pairs (now (file .entry))))) → map text (vec-items rows) ≡ keys (R·OrderedReading .pairs (now (file .entry)))) ⌝ }
+    ensures { λ r. ⌜ made r (λ rows. T (short 66 (keys (R·OrderedReading .pairs (now (file .entry))))) → map text (vec-items rows) ≡ keys (R·OrderedReading .pairs (now (file .entry)))) ⌝ }
 {
     let mut rows = Vec::new(heap);
     let mut last = KeyRow::empty();

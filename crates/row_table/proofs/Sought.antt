@@ -22,7 +22,8 @@ use Rattle.ordered_table.proofs.Outcomes.{is-there, not-there}
 use Rattle.storage.specs.declared.mark.PositionMark.{PositionMark}
 use Rattle.storage.specs.declared.mark.PositionMark.the-variants.{At, Beyond}
 use Rattle.storage.specs.Places.{next-place}
-use Rattle.storage.proofs.Long.{short, holds-long, place-long}
+use Rattle.storage.specs.Pairs.{short}
+use Rattle.storage.proofs.Long.{holds-long, place-long}
 use Rattle.row_table.specs.Cells.{rows-in}
 
 pub length-rows : (cells : List (ByteString 66)) (used : ℕ) → used ≤ length cells → length (rows-in cells used) ≡ used

@@ -101,37 +101,34 @@ module _ (rows : List Bytes) (x : Bytes) where
 
   -- ---- adding
 
-  abbrev outcome : Bool → Bool → Bool → Result (Unit {0}) RowFault
-  outcome ill there full = settled (first ((ill, IllegalCount) ∷ (there, AlreadyExists) ∷ (full, FileFull) ∷ []))
+  abbrev outcome : Bool → Bool → Result (Unit {0}) RowFault
+  outcome there full = cond there (Err AlreadyExists) (cond full (Err FileFull) (Ok tt))
 
   abbrev ill-formed : Bool
   ill-formed = eqb (length x) 0 || ltb 66 (length x)
 
-  pub add-illegal : (limit : ℕ) → ill-formed ≡ true → settled (first (add-checks limit (bare rows) x)) ≡ Err IllegalCount
-  add-illegal limit e = ap (λ b. outcome b (isSome (under x (bare rows))) (leb limit (length (bare rows)))) e
-
-  pub add-present : (limit : ℕ) → ill-formed ≡ false → holds order rows x ≡ true → settled (first (add-checks limit (bare rows) x)) ≡ Err AlreadyExists
-  add-present limit e h = λ t. outcome (e t) (ap isSome (under-held h) t) (leb limit (length (bare rows)))
-
-  pub add-full : (limit : ℕ) → ill-formed ≡ false → holds order rows x ≡ false → limit ≤ length rows → settled (first (add-checks limit (bare rows) x)) ≡ Err FileFull
-  add-full limit e h l =
-      λ t. outcome (e t) (ap isSome (under-absent h) t) ((ap (leb limit) (length-bare rows) ∙ le-leb limit (length rows) l) t)
-
-  pub add-done : (limit : ℕ) → ill-formed ≡ false → holds order rows x ≡ false → length rows < limit → settled (first (add-checks limit (bare rows) x)) ≡ Ok tt
-  add-done limit e h l =
-      λ t. outcome (e t) (ap isSome (under-absent h) t) ((ap (leb limit) (length-bare rows) ∙ lt-leb limit (length rows) l) t)
-
   -- a row of the right length, by what the ordered table says of it
-  pub add-is : (limit : ℕ) → ill-formed ≡ false → settled (first (add-checks limit (bare rows) x)) ≡ cond (holds order rows x) (Err AlreadyExists) (cond (leb limit (length rows)) (Err FileFull) (Ok tt))
-  add-is limit e = (λ t. outcome (e t) (there t) (leb limit (length-bare rows t))) ∙ split (holds order rows x) (leb limit (length rows))
+  pub add-is : (limit : ℕ) → ill-formed ≡ false → settled (first (add-checks limit (bare rows) x)) ≡ outcome (holds order rows x) (leb limit (length rows))
+  add-is limit e =
+      (λ t. settled (first ((e t, IllegalCount) ∷ (there t, AlreadyExists) ∷ (leb limit (length-bare rows t), FileFull) ∷ [])))
+      ∙ split (holds order rows x) (leb limit (length rows))
     where
       there : isSome (under x (bare rows)) ≡ holds order rows x
       there = ap isSome (under-bare rows x) ∙ some-held (holds order rows x) []
 
-      split : (h f : Bool) → outcome false h f ≡ cond h (Err AlreadyExists) (cond f (Err FileFull) (Ok tt))
+      split : (h f : Bool) → settled (first ((false, IllegalCount) ∷ (h, AlreadyExists) ∷ (f, FileFull) ∷ [])) ≡ outcome h f
       split true f = refl
       split false true = refl
       split false false = refl
+
+  pub add-present : (limit : ℕ) → ill-formed ≡ false → holds order rows x ≡ true → settled (first (add-checks limit (bare rows) x)) ≡ Err AlreadyExists
+  add-present limit e h = add-is limit e ∙ ap (λ b. outcome b (leb limit (length rows))) h
+
+  pub add-full : (limit : ℕ) → ill-formed ≡ false → holds order rows x ≡ false → limit ≤ length rows → settled (first (add-checks limit (bare rows) x)) ≡ Err FileFull
+  add-full limit e h l = add-is limit e ∙ (λ t. outcome (h t) (le-leb limit (length rows) l t))
+
+  pub add-done : (limit : ℕ) → ill-formed ≡ false → holds order rows x ≡ false → length rows < limit → settled (first (add-checks limit (bare rows) x)) ≡ Ok tt
+  add-done limit e h l = add-is limit e ∙ (λ t. outcome (h t) (lt-leb limit (length rows) l t))
 
   pub add-leaves : holds order rows x ≡ false → bare (inserted rows (place order rows x) x) ≡ placed x [] (bare rows)
   add-leaves h =

@@ -9,29 +9,22 @@ use lib.ListN.{length, take}
 use Rattle.std.specs.declared.cmp.Ordering.{Ordering}
 use Rattle.std.specs.declared.cmp.Ordering.the-variants.{Less, Equal, Greater}
 use Rattle.std.specs.Orderings.{isLt, isEq}
-use Rattle.std.specs.shelf.Lawful.{all-pass, sorted-test}
+use Rattle.std.specs.shelf.Lawful.{sorted-test}
 use Rattle.std.proofs.shelf.Tests.{leb-true}
 use Rattle.byte_strings.specs.Bytes.{Bytes, order}
 use Rattle.byte_strings.proofs.LongProbes.{with-more, order-long}
 use Rattle.byte_strings.proofs.TotalOrder.{total-order}
 use Rattle.ordered_table.specs.Table.{holds, place}
-use Rattle.ordered_table.proofs.Edits.{left, right, is-less, beyond, flipped, none-beyond}
-use Rattle.storage.specs.Pairs.{Ascending}
+use Rattle.ordered_table.proofs.Edits.{left, right, passes, is-less, beyond, flipped, none-beyond}
+use Rattle.storage.specs.Pairs.{Ascending, short}
 use Rattle.storage.proofs.Places.{apart-equal, apart-greater}
-
-abbrev pub short : ℕ → List Bytes → Bool
-short n ks = all-pass (λ k. leb (length k) n) ks
-
-holds-test : (b : Bool) → T b → b ≡ true
-holds-test true t = refl
-holds-test false t = absurd t
 
 module _ (n : ℕ) (x : Bytes) (long : n < length x) where
   abbrev front : Bytes
   front = take n x
 
   by-front : (k : Bytes) → T (leb (length k) n) → order k x ≡ with-more (order k front)
-  by-front k h = order-long n k x (leb-true (length k) n (holds-test (leb (length k) n) h)) long
+  by-front k h = order-long n k x (leb-true (length k) n (passes (leb (length k) n) h)) long
 
   never-equal : (o : Ordering) → isEq (with-more o) ≡ false
   never-equal Less = refl

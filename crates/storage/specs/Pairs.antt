@@ -1,4 +1,5 @@
 -- A list of pairs, a key and what stands under it, with the keys strictly ascending.
+--     Ascending, short      the keys ascend strictly; none is longer than n bytes
 --     keys, total           the keys in their order; the number of all bytes under them
 --     under                 what stands under a key
 --     next                  the lowest key at or above a string, or strictly above it
@@ -6,17 +7,21 @@
 use mathlib.Core.Bool.{Bool, cond, not}
 use mathlib.Core.List.{List, [], _∷_, map}
 use Prim.Native.Nat.{ℕ, _+_}
-use lib.Dec.{T}
+use lib.Dec.{leb}
 use lib.ListN.{length}
 use Rattle.std.specs.declared.option.Option.{Option}
 use Rattle.std.specs.declared.option.Option.the-variants.{Some, None}
-use Rattle.std.specs.shelf.Lawful.{sorted-test}
+use Rattle.std.specs.shelf.Lawful.{all-pass}
+use Rattle.ordered_table.specs.Table as table
 use Rattle.byte_strings.specs.Bytes.{Bytes, order, below, same}
 use Rattle.storage.specs.declared.mark.PositionMark.{PositionMark}
 use Rattle.storage.specs.declared.mark.PositionMark.the-variants.{At, Beyond}
 
 abbrev pub Ascending : List Bytes → Type 0
-Ascending ks = T (sorted-test order ks)
+Ascending ks = table.Ascending order ks
+
+abbrev pub short : ℕ → List Bytes → Bool
+short n ks = all-pass (λ k. leb (length k) n) ks
 
 unfoldable pub total : List (Bytes × Bytes) → ℕ
 total [] = 0

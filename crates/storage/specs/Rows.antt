@@ -6,7 +6,6 @@ use Prim.Native.Nat.{ℕ}
 use lib.Dec.{eqb, leb, ltb}
 use lib.ListN.{length}
 use Rattle.std.specs.Options.{isSome}
-use Rattle.std.specs.shelf.Lawful.{all-pass}
 use Rattle.byte_strings.specs.Bytes.{Bytes}
 use Rattle.storage.specs.declared.faults.RowFault.{RowFault}
 use Rattle.storage.specs.declared.faults.RowFault.the-variants.{AlreadyExists, NotFound, IllegalCount, FileFull}
@@ -21,10 +20,6 @@ keys-bare (row ∷ rows) = ap (λ ks. row ∷ ks) (keys-bare rows)
 
 pub bare-ascending : (rows : List Bytes) → Ascending rows → Ascending (keys (bare rows))
 bare-ascending rows up = subst Ascending (sym (keys-bare rows)) up
-
--- no key is longer than the longest row
-abbrev pub row-long : List Bytes → Bool
-row-long ks = all-pass (λ k. leb (length k) 66) ks
 
 -- a row has 1 to 66 bytes
 abbrev pub row-checks : Bytes → List (Bool × RowFault)

@@ -25,9 +25,10 @@ loop-again g c = λ h.
     let n = length-map ps (λ (p : Bytes × Bytes). p .0) in
     let l : i < length ks = omega arith in
     let inv = c .loop .inv h in
-    let m = listed-more ks (vec-items (c .loop .rows)) (c .next-row-last .result) i (next (c .loop .mark) (text (c .loop .last)) ks) h l (inv .0) (inv .1) (c .next-row-last .ensures) in
-    (ap (map text) (c .in-Continue-push .ensures tt .items) ∙ m .0,
-     ap (λ x. next Beyond x ks) (m .1) ∙ next-key ks i (g .R·OrderedReading .ascending (c .args .file .now)) l)
+    let m = listed-more ks (vec-items (c .loop .rows)) (c .next-row-last .result) i (next (c .loop .mark) (text (c .loop .last)) ks) h l (inv .0) (inv .1) (c .next-row-last .ensures) in (
+      ap (map text) (c .in-Continue-push .ensures tt .items) ∙ m .0,
+      ap (λ x. next Beyond x ks) (m .1) ∙ next-key ks i (g .R·OrderedReading .ascending (c .args .file .now)) l,
+    )
 
 pub returns : need.returns
 returns g c = λ h.

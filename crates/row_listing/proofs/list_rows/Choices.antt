@@ -5,12 +5,11 @@ use lib.ListN.{take}
 use Rattle.std.specs.Finite.{nth}
 use Rattle.std.specs.Of.Vec.{vec-items}
 use Rattle.byte_strings.specs.Texts.{text}
-use Rattle.storage.specs.Pairs.{keys, next}
-use Rattle.storage.specs.Rows.{row-long}
+use Rattle.storage.specs.Pairs.{keys, next, short}
 use Rattle.row_listing.proofs.list_rows.Given as given
 
 abbrev pub Inv-loop : given.InvT-loop
 Inv-loop g l =
-    T (row-long (keys (g .R·OrderedReading .pairs (l .file))))
+    T (short 66 (keys (g .R·OrderedReading .pairs (l .file))))
     → (map text (vec-items (l .rows)) ≡ take (l .counter) (keys (g .R·OrderedReading .pairs (l .file))))
     × (next (l .mark) (text (l .last)) (keys (g .R·OrderedReading .pairs (l .file))) ≡ nth (keys (g .R·OrderedReading .pairs (l .file))) (l .counter))

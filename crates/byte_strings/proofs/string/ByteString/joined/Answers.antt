@@ -11,21 +11,24 @@ pub loop-i-holds : need.loop-i-holds
 loop-i-holds g c = (length-replicate (g .N) 0, refl)
 
 pub loop-i-again : need.loop-i-again
-loop-i-again g c =
-    (simp length-set (c .loop-i .inv .0),
-     copied-more (c .loop-i .all) (c .args .front .now) (c .loop-i .i) (omega arith) (omega arith) (c .loop-i .inv .1))
+loop-i-again g c = (
+  simp length-set (c .loop-i .inv .0),
+  copied-more (c .loop-i .all) (c .args .front .now) (c .loop-i .i) (omega arith) (omega arith) (c .loop-i .inv .1),
+)
 
 pub loop-j-holds : need.loop-j-holds
 loop-j-holds g c =
     let front = c .args .front .now in
-    let end : c .loop-i .i ≡ c .min-n .result = omega arith in
-    (c .loop-i .inv .0,
-     join-none (c .loop-i .all) front (c .args .rest .now) (c .min-n .result) (omega arith) (subst (λ k. take k (c .loop-i .all) ≡ take k front) end (c .loop-i .inv .1)))
+    let end : c .loop-i .i ≡ c .min-n .result = omega arith in (
+      c .loop-i .inv .0,
+      join-none (c .loop-i .all) front (c .args .rest .now) (c .min-n .result) (omega arith) (subst (λ k. take k (c .loop-i .all) ≡ take k front) end (c .loop-i .inv .1)),
+    )
 
 pub loop-j-again : need.loop-j-again
-loop-j-again g c =
-    (simp length-set (c .loop-j .inv .0),
-     join-more (c .loop-j .all) (c .args .front .now) (c .args .rest .now) (c .min-n .result) (c .loop-j .j) (omega arith) (omega arith) (omega arith) (c .loop-j .inv .1))
+loop-j-again g c = (
+  simp length-set (c .loop-j .inv .0),
+  join-more (c .loop-j .all) (c .args .front .now) (c .args .rest .now) (c .min-n .result) (c .loop-j .j) (omega arith) (omega arith) (omega arith) (c .loop-j .inv .1),
+)
 
 pub returns : need.returns
 returns g c =

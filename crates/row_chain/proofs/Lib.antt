@@ -1,0 +1,9 @@
+pub mod Counts
+pub mod Fresh
+pub mod Relinks
+pub mod Seats
+pub mod Seeks
+pub mod Slots
+pub mod Splices
+pub mod Unlinks
+pub mod Walks
