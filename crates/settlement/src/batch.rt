@@ -1,4 +1,11 @@
 // The batch, over any two key-row files.
+ghost use mathlib.Core.Path.{_≡_};
+ghost use mathlib.Core.List.{[]};
+ghost use Rattle.std.specs.Of.Vec.{vec-items};
+ghost use Rattle.std.specs.Vec.{refused};
+ghost use Rattle.byte_strings.specs.Texts.{text};
+ghost use Rattle.storage.specs.Checks.{leaves};
+ghost use Rattle.storage.specs.Pairs.{placed};
 use crate::delivery::Delivery;
 use crate::delivery::read_delivery;
 use crate::flaw::Flaw;
@@ -53,7 +60,11 @@ fn take_in<T: KeyRowFile, C: KeyRowFile>(
     deliveries: &mut Vec<Delivery>,
     table: &mut T,
     chain: &mut C,
-) -> Result<(), Flaw> {
+) -> Result<(), Flaw>
+    ensures table { λ r. ⌜ refused r (λ _. T·OrderedReading .pairs (now (table .exit)) ≡ T·OrderedReading .pairs (now (table .entry))) ⌝ }
+    ensures chain { λ r. ⌜ refused r (λ _. C·OrderedReading .pairs (now (chain .exit)) ≡ C·OrderedReading .pairs (now (chain .entry))) ⌝ }
+    ensures deliveries { λ r. ⌜ refused r (λ _. vec-items (now (deliveries .exit)) ≡ vec-items (now (deliveries .entry))) ⌝ }
+{
     let delivery = read_delivery(heap, line)?;
     if is_given(deliveries.as_slice(), delivery.key.as_bytes()) {
         return Err(Flaw::GivenTwice);
@@ -65,11 +76,15 @@ fn take_in<T: KeyRowFile, C: KeyRowFile>(
     Ok(())
 }
 
+// The row goes into both files, or both are left as they were.
 fn add_to_both<T: KeyRowFile, C: KeyRowFile>(
     table: &mut T,
     chain: &mut C,
     row: &KeyRow,
-) -> Result<(), Flaw> {
+) -> Result<(), Flaw>
+    ensures table { λ r. ⌜ T·OrderedReading .pairs (now (table .exit)) ≡ leaves r (placed (text (now (row .entry))) [] (T·OrderedReading .pairs (now (table .entry)))) (T·OrderedReading .pairs (now (table .entry))) ⌝ }
+    ensures chain { λ r. ⌜ C·OrderedReading .pairs (now (chain .exit)) ≡ leaves r (placed (text (now (row .entry))) [] (C·OrderedReading .pairs (now (chain .entry)))) (C·OrderedReading .pairs (now (chain .entry))) ⌝ }
+{
     table.add(row.as_slice())?;
     if let Err(fault) = chain.add(row.as_slice()) {
         table.drop_row(row.as_slice())?;

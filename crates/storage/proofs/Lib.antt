@@ -1,3 +1,4 @@
 pub mod Bare
 pub mod Long
+pub mod OwnPair
 pub mod Places
