@@ -8,6 +8,7 @@ use storage::AbsentPartialEq;
 use storage::KeyRowFile;
 use storage::PositionMark;
 use storage::RowFaultPartialEq;
+use storage::is_present;
 
 const STEPS: u32 = 1_000;
 
@@ -100,6 +101,7 @@ fn fetch<T: KeyRowFile, C: KeyRowFile>(tally: &mut Tally, table: &T, chain: &C, 
     let mut right = [b'.'; 5];
     let a = table.fetch(row, &mut left);
     let b = chain.fetch(row, &mut right);
-    tally.note_like(a == b && left == right);
-    tally.note_reading(a.is_ok());
+    let there = is_present(table, row);
+    tally.note_like(a == b && left == right && there == is_present(chain, row));
+    tally.note_reading(there);
 }

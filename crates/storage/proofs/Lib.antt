@@ -1,4 +1,5 @@
 pub mod Bare
 pub mod Long
+pub mod Lowest
 pub mod OwnPair
 pub mod Places

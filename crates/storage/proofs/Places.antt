@@ -48,7 +48,7 @@ module _ {A : Type 0} where
   none-step true p ws ps h e ih = absurd (true≢false e)
   none-step false p ws ps h e ih = ap (λ l. p ∷ l) (ih e)
 
-  without-none : (κ : Bytes) (ps : List (Bytes × A)) → holds order (keys ps) κ ≡ false → without κ ps ≡ ps
+  pub without-none : (κ : Bytes) (ps : List (Bytes × A)) → holds order (keys ps) κ ≡ false → without κ ps ≡ ps
   unfolding without holds
   without-none κ [] h = refl
   without-none κ (p ∷ ps) h =

@@ -1,5 +1,6 @@
 pub mod Checks
 pub mod Faults
+pub mod Laws
 pub mod Pairs
 pub mod Places
 pub mod Primary

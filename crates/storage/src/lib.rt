@@ -3,6 +3,7 @@
 mod faults;
 mod limits;
 mod mark;
+mod present;
 mod primary;
 mod reading;
 mod rows;
@@ -27,6 +28,8 @@ pub use limits::check_row_limit;
 pub use mark::PositionMark;
 pub use mark::PositionMarkDebug;
 pub use mark::PositionMarkPartialEq;
+pub use present::is_present;
+pub use present::lets_in;
 pub use primary::PrimaryFile;
 pub use reading::OrderedReading;
 pub use rows::KeyRowFile;
