@@ -1,4 +1,4 @@
--- What is found in an ascending list is the lowest key that the mark lets in. Assumes nothing.
+-- What is found in an ascending list is the lowest key that is reached. Assumes nothing.
 use mathlib.Core.Path.{_≡_, refl, sym, ap, subst, _∙_}
 use mathlib.Core.Bool.{Bool, true, false, cond, _||_, true≢false}
 use mathlib.Core.List.{List, [], _∷_}
@@ -44,22 +44,22 @@ above k x (y ∷ ys) a h =
     (λ e. ap (λ z. below z k) (sym e) ∙ below-asym y k (less-below k y (is-less (order k y) (left (isLt (order k y)) (beyond total-order k ys) a))))
     (above k x ys (right (isLt (order k y)) (beyond total-order k ys) a))
 
--- ---- the first that is let in
+-- ---- the first that is reached
 
 module _ (mark : PositionMark) (from : Bytes) where
-  abbrev in-by : Bytes → Bool
-  in-by k = reached mark from k
+  abbrev reached-by : Bytes → Bool
+  reached-by k = reached mark from k
 
   none-step : (b : Bool) (k : Bytes) (o : Option Bytes) → cond b (Some k) o ≡ None → (b ≡ false) × (o ≡ None)
   none-step true k o e = let z : _≡_ {A = ℕ} 0 1 = cc in absurd (omega arith)
   none-step false k o e = (refl, e)
 
-  none : (ks : List Bytes) → next mark from ks ≡ None → (x : Bytes) → has x ks ≡ true → in-by x ≡ false
+  none : (ks : List Bytes) → next mark from ks ≡ None → (x : Bytes) → has x ks ≡ true → reached-by x ≡ false
   unfolding next
   none [] e x h = absurd (true≢false (sym h))
   none (k ∷ ks) e x h =
-      let f = none-step (in-by k) k (next mark from ks) e in
-      one-of k ks x (in-by x ≡ false) h (λ s. ap in-by (sym s) ∙ f .0) (none ks (f .1) x)
+      let f = none-step (reached-by k) k (next mark from ks) e in
+      one-of k ks x (reached-by x ≡ false) h (λ s. ap reached-by (sym s) ∙ f .0) (none ks (f .1) x)
 
   some-step : (b : Bool) (k : Bytes) (o : Option Bytes) (x : Bytes) (P : Type 0) → cond b (Some k) o ≡ Some x → (b ≡ true → k ≡ x → P) → (b ≡ false → o ≡ Some x → P) → P
   some-step true k o x P e here there = here refl (cc)
@@ -69,21 +69,21 @@ module _ (mark : PositionMark) (from : Bytes) where
   unfolding next
   one-of-them [] x e = let z : _≡_ {A = ℕ} 0 1 = cc in absurd (omega arith)
   one-of-them (k ∷ ks) x e =
-      some-step (in-by k) k (next mark from ks) x (has x (k ∷ ks) ≡ true) e
+      some-step (reached-by k) k (next mark from ks) x (has x (k ∷ ks) ≡ true) e
       (λ _ s. subst (λ y. has y (k ∷ ks) ≡ true) s (has-here k ks))
       (λ _ o. has-there k ks x (one-of-them ks x o))
 
-  let-in : (ks : List Bytes) (x : Bytes) → next mark from ks ≡ Some x → in-by x ≡ true
+  is-reached : (ks : List Bytes) (x : Bytes) → next mark from ks ≡ Some x → reached-by x ≡ true
   unfolding next
-  let-in [] x e = let z : _≡_ {A = ℕ} 0 1 = cc in absurd (omega arith)
-  let-in (k ∷ ks) x e =
-      some-step (in-by k) k (next mark from ks) x (in-by x ≡ true) e (λ r s. ap in-by (sym s) ∙ r) (λ _ o. let-in ks x o)
+  is-reached [] x e = let z : _≡_ {A = ℕ} 0 1 = cc in absurd (omega arith)
+  is-reached (k ∷ ks) x e =
+      some-step (reached-by k) k (next mark from ks) x (reached-by x ≡ true) e (λ r s. ap reached-by (sym s) ∙ r) (λ _ o. is-reached ks x o)
 
-  lowest : (ks : List Bytes) → Ascending ks → (x : Bytes) → next mark from ks ≡ Some x → (y : Bytes) → has y ks ≡ true → in-by y ≡ true → below y x ≡ false
+  lowest : (ks : List Bytes) → Ascending ks → (x : Bytes) → next mark from ks ≡ Some x → (y : Bytes) → has y ks ≡ true → reached-by y ≡ true → below y x ≡ false
   unfolding next
   lowest [] up x e y h r = absurd (true≢false (sym h))
   lowest (k ∷ ks) up x e y h r =
-      some-step (in-by k) k (next mark from ks) x (below y x ≡ false) e
+      some-step (reached-by k) k (next mark from ks) x (below y x ≡ false) e
       (λ _ s.
       subst (λ z. below y z ≡ false) s
       (one-of k ks y (below y k ≡ false) h
@@ -91,7 +91,7 @@ module _ (mark : PositionMark) (from : Bytes) where
       (above k y ks (left (beyond total-order k ks) (sorted-test order ks) up))))
       (λ out o.
       one-of k ks y (below y x ≡ false) h
-      (λ t. absurd (true≢false (sym r ∙ (ap in-by (sym t) ∙ out))))
+      (λ t. absurd (true≢false (sym r ∙ (ap reached-by (sym t) ∙ out))))
       (λ there. lowest ks (right (beyond total-order k ks) (sorted-test order ks) up) x o y there r))
 
 pub finds-lowest : (mark : PositionMark) (from : Bytes) (ks : List Bytes) → Ascending ks → LowestFound mark from ks
@@ -99,6 +99,6 @@ finds-lowest mark from ks up =
     record {
       none = none mark from ks;
       one-of-them = one-of-them mark from ks;
-      let-in = let-in mark from ks;
+      is-reached = is-reached mark from ks;
       lowest = lowest mark from ks up;
     }

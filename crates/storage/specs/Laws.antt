@@ -1,6 +1,6 @@
 -- Laws of a list of pairs, in the words of the rules.
 --     has                has a list a key
---     FindsLowest        what is found is the lowest key that the mark lets in, and none is found only where there is none
+--     FindsLowest        what is found is the lowest key that is reached, and none is found only where none is
 --     ChangesOwnPair     placing, replacing and removing alter what stands under their own key and nothing else
 --     KeepsOrder         after each of them the keys ascend strictly again
 use mathlib.Core.Path.{_≡_}
@@ -19,7 +19,7 @@ has x (k ∷ ks) = same k x || has x ks
 pub record LowestFound (mark : PositionMark) (from : Bytes) (ks : List Bytes) : Type 0 where
   pub none : next mark from ks ≡ None → (k : Bytes) → has k ks ≡ true → reached mark from k ≡ false
   pub one-of-them : (x : Bytes) → next mark from ks ≡ Some x → has x ks ≡ true
-  pub let-in : (x : Bytes) → next mark from ks ≡ Some x → reached mark from x ≡ true
+  pub is-reached : (x : Bytes) → next mark from ks ≡ Some x → reached mark from x ≡ true
   pub lowest : (x : Bytes) → next mark from ks ≡ Some x → (k : Bytes) → has k ks ≡ true → reached mark from k ≡ true → below k x ≡ false
 
 abbrev pub FindsLowest : Type 0

@@ -29,7 +29,7 @@ pub use mark::PositionMark;
 pub use mark::PositionMarkDebug;
 pub use mark::PositionMarkPartialEq;
 pub use present::is_present;
-pub use present::lets_in;
+pub use present::reaches;
 pub use primary::PrimaryFile;
 pub use reading::OrderedReading;
 pub use rows::KeyRowFile;

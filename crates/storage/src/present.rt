@@ -17,9 +17,9 @@ pub fn is_present<R: OrderedReading>(file: &R, key: &[u8]) -> bool
     file.fetch(key, &mut []).is_ok()
 }
 
-// Whether the mark lets the key in: at or above the string, or strictly above it. Finding answers the lowest key of a
-// file that is let in.
-pub fn lets_in(mark: PositionMark, from: &[u8], key: &[u8]) -> bool
+// Whether a search from the string reaches the key: at or above the string, or strictly above it, as the mark says.
+// Finding answers the lowest key of a file that is reached.
+pub fn reaches(mark: PositionMark, from: &[u8], key: &[u8]) -> bool
     ensures value { λ r. ⌜ r ≡ reached mark (now (from .entry)) (now (key .entry)) ⌝ }
     ensures lowest { λ _. ⌜ FindsLowest ⌝ }
 {

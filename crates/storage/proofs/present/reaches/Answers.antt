@@ -4,7 +4,7 @@ use Rattle.std.specs.Orderings.{isLt}
 use Rattle.byte_strings.specs.Bytes.{below}
 use Rattle.storage.specs.Pairs.{reached}
 use Rattle.storage.proofs.Lowest.{finds-lowest}
-use Rattle.storage.proofs.present.lets_in.Needs as need
+use Rattle.storage.proofs.present.reaches.Needs as need
 
 pub returns-in-At : need.returns-in-At
 unfolding below
