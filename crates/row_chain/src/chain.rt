@@ -5,7 +5,11 @@ ghost use Prim.Native.Nat.{_≤_};
 ghost use lib.ListN.{length};
 ghost use Rattle.byte_strings.specs.Bytes.{order};
 ghost use Rattle.ordered_table.specs.Table.{Ascending, holds, place};
+ghost use Rattle.std.specs.Results.{Cases};
+ghost use Rattle.storage.specs.Checks.{first, settled};
 ghost use Rattle.storage.specs.Places.{next-place};
+ghost use Rattle.storage.specs.Rows.{limit-checks};
+ghost use Rattle.storage.specs.Spaces.{space-verdict};
 ghost use Rattle.row_chain.specs.Chains.{Whole, rows};
 ghost use Rattle.row_chain.specs.Links.{links, follow};
 ghost use Rattle.row_chain.specs.Seats.{Seated};
@@ -15,6 +19,7 @@ use crate::slot::Slot;
 use byte_strings::compare;
 use std::cmp::Ordering;
 use storage::PositionMark;
+use storage::RowFault;
 use storage::RowSpace;
 
 #[derive(Drop)]
@@ -26,8 +31,23 @@ pub struct RowChain<'a> {
 }
 
 impl<'a> RowChain<'a> {
+    // A file with no row and that row limit. A limit outside 1 to 16,384, or above what the memory holds, is refused and
+    // the memory handed back.
+    pub fn new(
+        memory: &'a mut [Slot],
+        limit: usize,
+    ) -> Result<RowChain<'a>, (&'a mut [Slot], RowFault)>
+        ensures value { λ r. ⌜ space-verdict r ≡ settled (first (limit-checks limit (length (now (memory .entry))))) ⌝ }
+        ensures cases { λ r. ⌜ Cases r (λ made. (rows (made .linked) ≡ []) × (length (made .linked .slots .now) ≡ limit)) (λ back. back .0 .now ≡ now (memory .entry)) ⌝ }
+    {
+        match RowSpace::new(memory, limit) {
+            Ok(space) => Ok(RowChain::over(space)),
+            Err(back) => Err(back),
+        }
+    }
+
     // A file with no row, which may come to hold as many as the space has slots.
-    pub fn over(space: RowSpace<'a, Slot>) -> RowChain<'a>
+    fn over(space: RowSpace<'a, Slot>) -> RowChain<'a>
         ensures rows { λ r. ⌜ rows (r .linked) ≡ [] ⌝ }
         ensures limit { λ r. ⌜ length (r .linked .slots .now) ≡ length (space .entry .cells .now) ⌝ }
     {

@@ -13,7 +13,6 @@ use row_table::RowTableReading;
 use std::error::AnyError;
 use steps::compare_files;
 use storage::KeyRow;
-use storage::RowSpace;
 
 // Few enough that adds meet a full file.
 const ROWS: usize = 24;
@@ -26,11 +25,11 @@ fn run(rt: &LibcRuntime) -> Result<(), AnyError> {
     let heap = rt.alloc();
     let mut cells = vec![in heap; KeyRow::empty(); ROWS]?;
     let mut slots = vec![in heap; Slot::unused(); ROWS]?;
-    let Ok(table) = RowSpace::new(cells.as_mut_slice(), ROWS) else {
+    let Ok(table) = RowTable::new(cells.as_mut_slice(), ROWS) else {
         return Err("no space for the table".into());
     };
-    let Ok(chain) = RowSpace::new(slots.as_mut_slice(), ROWS) else {
+    let Ok(chain) = RowChain::new(slots.as_mut_slice(), ROWS) else {
         return Err("no space for the chain".into());
     };
-    compare_files(rt, RowTable::over(table), RowChain::over(chain))
+    compare_files(rt, table, chain)
 }

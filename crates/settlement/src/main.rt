@@ -18,7 +18,6 @@ use std::env;
 use std::error::AnyError;
 use storage::KeyRow;
 use storage::MOST_ROWS;
-use storage::RowSpace;
 
 // The row limit where the program is given none.
 const USUAL_ROWS: usize = 4_096;
@@ -33,13 +32,13 @@ fn run(rt: &LibcRuntime) -> Result<(), AnyError> {
     let held = limit.min(MOST_ROWS);
     let mut cells = vec![in heap; KeyRow::empty(); held]?;
     let mut slots = vec![in heap; Slot::unused(); held]?;
-    let Ok(table) = RowSpace::new(cells.as_mut_slice(), limit) else {
+    let Ok(table) = RowTable::new(cells.as_mut_slice(), limit) else {
         return Err("the row limit is not 1 to 16384".into());
     };
-    let Ok(chain) = RowSpace::new(slots.as_mut_slice(), limit) else {
+    let Ok(chain) = RowChain::new(slots.as_mut_slice(), limit) else {
         return Err("the row limit is not 1 to 16384".into());
     };
-    settle(rt, RowTable::over(table), RowChain::over(chain))
+    settle(rt, table, chain)
 }
 
 // The first argument, a number of rows.

@@ -22,7 +22,7 @@ impl<'a, C> RowSpace<'a, C> {
         limit: usize,
     ) -> Result<RowSpace<'a, C>, (&'a mut [C], RowFault)>
         ensures value { λ r. ⌜ space-verdict r ≡ settled (first (limit-checks limit (length (now (memory .entry))))) ⌝ }
-        ensures cases { λ r. ⌜ Cases r (λ space. space .cells .now ≡ take limit (now (memory .entry))) (λ back. back .0 .now ≡ now (memory .entry)) ⌝ }
+        ensures cases { λ r. ⌜ Cases r (λ space. (space .cells .now ≡ take limit (now (memory .entry))) × (length (space .cells .now) ≡ limit)) (λ back. back .0 .now ≡ now (memory .entry)) ⌝ }
     {
         match check_row_limit(limit, memory.len()) {
             Ok(()) => Ok(RowSpace {
