@@ -100,23 +100,5 @@ pub below-irrefl : (x : Bytes) → below x x ≡ false
 unfolding below
 below-irrefl x = ap isLt (order-itself x)
 
-neither : (o r : Ordering) → o ≡ reversed r → isLt o ≡ false → isLt r ≡ false → o ≡ Equal
-neither Less r e h k = absurd (true≢false h)
-neither Equal r e h k = refl
-neither Greater Less e h k = absurd (true≢false k)
-neither Greater Equal e h k = e
-neither Greater Greater e h k = absurd (true≢false (ap isGt e))
-
-pub below-total : (x y : Bytes) → below x y ≡ false → below y x ≡ false → x ≡ y
-unfolding below
-below-total x y h k = equal-is x y (neither (order x y) (order y x) (order-flip x y) h k)
-
 pub below-asym : (x y : Bytes) → below y x ≡ true → below x y ≡ false
 below-asym x y h = grind (arith, below-trans, below-irrefl)
-
--- above what is not below
-pub above-at : (x y z : Bytes) → below y x ≡ false → below y z ≡ true → below x z ≡ true
-above-at x y z h l = grind (arith, below-trans, below-total)
-
-pub not-below : (x y z : Bytes) → below y x ≡ false → below x z ≡ false → below y z ≡ false
-not-below x y z h k = grind (arith, above-at)

@@ -1,6 +1,7 @@
 -- Byte strings and their order.
 --     order          unsigned bytes from the first on; a proper prefix comes first
---     below, same    what the order says, as tests
+--     below          the first comes before the second
+--     same           byte for byte the same
 --     fronted        a buffer whose front takes bytes, cut to its length
 use mathlib.Core.Path.{_≡_}
 use mathlib.Core.Bool.{Bool}

@@ -5,7 +5,7 @@ ghost use lib.ListN.{take};
 ghost use Rattle.std.specs.Options.{SomeBy};
 ghost use Rattle.std.specs.Orderings.{Decides};
 ghost use Rattle.byte_strings.specs.Bytes.{order};
-ghost use Rattle.byte_strings.specs.Texts.{text};
+ghost use Rattle.byte_strings.specs.Texts.{text, TotalByText};
 use crate::order::compare;
 use crate::string::ByteString;
 use std::cmp::Ordering;
@@ -76,7 +76,11 @@ pub impl<const N: usize> PartialOrd<ByteString<N>> for ByteString<N> as ByteStri
 pub impl<const N: usize> Ord for ByteString<N> as ByteStringOrd {
     ghost orders = { λ x y r. r ≡ order (text x) (text y) };
 
-    fn cmp(&self, other: &ByteString<N>) -> Ordering {
+    // By what the strings hold, and not by the bytes behind, they are totally ordered.
+    fn cmp(&self, other: &ByteString<N>) -> Ordering
+        ensures value { λ r. ⌜ r ≡ order (text (now (self .entry))) (text (now (other .entry))) ⌝ }
+        ensures total { λ _. ⌜ TotalByText N ⌝ }
+    {
         compare(self.as_slice(), other.as_slice())
     }
 }
