@@ -1,4 +1,3 @@
 pub mod LongProbes
-pub mod StringOrder
 pub mod TotalOrder
 mod Copies

@@ -1,6 +1,6 @@
 -- A string that is longer than another compares with it as its front does, and comes after where the front is equal.
 -- Assumes nothing.
-use Rattle.std.proofs.Common.{◌≡◌, ℕ, zero, suc, ◌<◌, ◌≤◌, [], ◌∷◌, length, take, Ordering, Less, Equal, Greater, refl, ap, ◌∙◌, le_of_suc-le-suc, not-suc-le-zero}
+use Rattle.std.proofs.Common.{◌≡◌, ℕ, zero, suc, ◌<◌, ◌≤◌, [], ◌∷◌, length, take, Ordering, Less, Equal, Greater, refl, le_of_suc-le-suc, not-suc-le-zero}
 use Rattle.std.specs.Cmp.Lexicographic.{slice_cmp}
 use Rattle.std.specs.Ordering.{ordering_then, nat_cmp}
 use Rattle.byte_strings.specs.Bytes.{Bytes, order}

@@ -1,25 +1,23 @@
 -- The order of byte strings is total, and what its tests say. Assumes nothing.
-use Rattle.std.proofs.Common.{◌≡◌, ℕ, ◌<◌, Bool, true, false, ◌⊎◌, List, [], ◌∷◌, Ordering, Less, Equal, Greater, sym, refl, ap, ◌∙◌, inl, inr, true≢false, arith}
+use Rattle.std.proofs.Common.{◌≡◌, ℕ, ◌<◌, Bool, true, false, ◌⊎◌, [], ◌∷◌, Ordering, Less, Equal, Greater, sym, refl, ap, ◌∙◌, inl, inr, true≢false, arith}
 use Rattle.std.specs.Cmp.{IsTotalOrder, nat_cmp_total, ranks}
 use Rattle.std.specs.Cmp.Lexicographic.{slice_cmp, lists_total}
 use Rattle.std.specs.Ordering.{is_lt, is_gt, is_eq, MatchOrdering, ordering_then, ordering_reverse, nat_cmp}
 use Rattle.std.proofs.lemmas.Slice.Eq.{bytes_eq-Decides}
-use Rattle.byte_strings.specs.Bytes.{Bytes, order, Ordered, below, same}
+use Rattle.byte_strings.specs.Bytes.{Bytes, order, below, same}
+
+pub total_order : IsTotalOrder order
+unfolding order
+total_order = lists_total nat_cmp_total
 
 pub order_flip : (x y : Bytes) → order x y ≡ ordering_reverse (order y x)
-unfolding order
-order_flip = (lists_total nat_cmp_total).antisymm
+order_flip = total_order.antisymm
 
 pub order_trans : (x y z : Bytes) → order x y ≡ Less → order y z ≡ Less → order x z ≡ Less
-unfolding order
-order_trans = (lists_total nat_cmp_total).trans
+order_trans = total_order.trans
 
 pub order_alike : (x y z : Bytes) → order x y ≡ Equal → order x z ≡ order y z
-unfolding order
-order_alike = (lists_total nat_cmp_total).congr
-
-abbrev pub total_order : IsTotalOrder Ordered
-total_order = record { cmp = order; says = λ x y r h. h; flip = order_flip; trans = order_trans; alike = order_alike }
+order_alike = total_order.congr
 
 -- ---- equal in the order means the same bytes
 

@@ -3,9 +3,8 @@
 --     below          the first comes before the second
 --     same           byte for byte the same
 --     fronted        a buffer whose front takes bytes, cut to its length
-use Rattle.std.specs.Prelude.{◌≡◌, ℕ, Bool, List, ◌++◌, length, take, drop}
+use Rattle.std.specs.Prelude.{ℕ, Bool, List, ◌++◌, length, take, drop}
 use Rattle.std.specs.declared.cmp.Ordering.{Ordering}
-use Rattle.std.specs.Cmp.{nat_cmp_total}
 use Rattle.std.specs.Cmp.Lexicographic.{slice_cmp}
 use Rattle.std.specs.Ordering.{is_lt, nat_cmp}
 use Rattle.std.specs.Str.{bytes_eq}
@@ -15,10 +14,6 @@ Bytes = List ℕ
 
 unfoldable pub order : Bytes → Bytes → Ordering
 order x y = slice_cmp nat_cmp x y
-
--- the order as a relation, as `Total` takes it
-abbrev pub Ordered : Bytes → Bytes → Ordering → Type 0
-Ordered x y r = r ≡ order x y
 
 unfoldable pub below : Bytes → Bytes → Bool
 below x y = is_lt (order x y)

@@ -1,4 +1,6 @@
 // Byte strings: their order, and their way into buffers and bounded memory.
+#![tactic(auto)]
+
 mod order;
 mod string;
 mod text;

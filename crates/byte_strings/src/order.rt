@@ -2,7 +2,7 @@
 ghost use Rattle.std.specs.Prelude.{◌≡◌, min, length};
 ghost use Rattle.std.specs.declared.cmp.Ordering.TheVariants.{Equal};
 ghost use Rattle.std.specs.Cmp.{IsTotalOrder};
-ghost use Rattle.byte_strings.specs.Bytes.{Bytes, order, Ordered, fronted};
+ghost use Rattle.byte_strings.specs.Bytes.{Bytes, order, fronted};
 
 use std::cmp::Ordering;
 
@@ -10,7 +10,7 @@ use std::cmp::Ordering;
 // before what it begins. The order is total, and equal means the same bytes.
 pub fn compare(x: &[u8], y: &[u8]) -> Ordering
     ensures value { result ≡ order x.now y.now }
-    ensures total { IsTotalOrder Ordered }
+    ensures total { IsTotalOrder order }
     ensures equal { (a b : Bytes) → order a b ≡ Equal → a ≡ b }
 {
     x.cmp(&y)

@@ -1,11 +1,9 @@
 // What a bounded byte string holds, and its order.
-ghost use Rattle.std.specs.Prelude.{◌≡◌, [], ◌++◌, take, IsSomeAnd, Some, Decides, refl};
-ghost use Rattle.byte_strings.specs.Bytes.{order};
+ghost use Rattle.std.specs.Prelude.{◌≡◌, ◌↔◌, [], ◌++◌, take, IsTrue, Some, refl};
+ghost use Rattle.std.specs.Cmp.{partial_equiv_from_equiv, partial_order_from_agreeing_total};
+ghost use Rattle.byte_strings.specs.Bytes.{order, same};
 ghost use Rattle.byte_strings.specs.Texts.{text, TotalByText};
-ghost use Rattle.std.specs.Cmp.Rules.{comparing};
-ghost use Rattle.std.proofs.Common.{rules, arith};
-ghost use Rattle.std.specs.Cmp as Keys;
-ghost use Rattle.std.specs.Cmp.{partial_order_from_agreeing_total};
+ghost use Rattle.byte_strings.specs.StringOrder.{string_order, string_equality, string_ties};
 
 use crate::order::compare;
 use crate::string::ByteString;
@@ -56,24 +54,28 @@ impl<const N: usize> ByteString<N> {
     }
 }
 
+// Equal are those that hold the same bytes.
 impl<const N: usize> PartialEq for ByteString<N> {
-    ghost equals = { λ x y r. Decides r (text x ≡ text y) };
+    ghost eq = { λ x y. same (text x) (text y) };
 
-    ghost laws = { Keys.partial_equiv_from_equiv (first_of (Prim.search (comparing, rules), Prim.grind (arith, Self.row.coded.inj))) };
+    ghost laws = { partial_equiv_from_equiv string_equality };
 
-    fn eq(&self, other: &ByteString<N>) -> bool {
+    fn eq(&self, other: &ByteString<N>) -> bool
+        ensures value { result ≡ same (text self.now) (text other.now) }
+        ensures equal { IsTrue result ↔ (text self.now ≡ text other.now) }
+    {
         self.as_slice() == other.as_slice()
     }
 }
 
 impl<const N: usize> Eq for ByteString<N> {
-    ghost laws = { first_of (Prim.search (comparing, rules), Prim.grind (arith, Self.row.coded.inj)) };
+    ghost laws = { string_equality };
 }
 
 impl<const N: usize> PartialOrd for ByteString<N> {
     ghost partial_cmp = { λ x y. Some (order (text x) (text y)) };
 
-    ghost laws = { partial_order_from_agreeing_total (λ x y. order (text x) (text y)) (first_of (Prim.search (comparing, rules), Prim.grind (arith, Self.row.coded.inj))) (λ _ _. refl) (first_of (Prim.search (comparing, rules), Prim.grind (arith, Self.row.coded.inj))) };
+    ghost laws = { partial_order_from_agreeing_total (λ x y. order (text x) (text y)) string_order (λ _ _. refl) string_ties };
 
     fn partial_cmp(&self, other: &ByteString<N>) -> Option<Ordering> {
         Some(self.cmp(other))
@@ -83,11 +85,11 @@ impl<const N: usize> PartialOrd for ByteString<N> {
 impl<const N: usize> Ord for ByteString<N> {
     ghost cmp = { λ x y. order (text x) (text y) };
 
-    ghost total = { first_of (Prim.search (comparing, rules), Prim.grind (arith, Self.row.coded.inj)) };
+    ghost total = { string_order };
 
-    ghost matches_partial_cmp = { first_of (Prim.search (comparing, rules), Prim.grind (arith, Self.row.coded.inj)) };
+    ghost matches_partial_cmp = { λ _ _. refl };
 
-    ghost matches_eq = { first_of (Prim.search (comparing, rules), Prim.grind (arith, Self.row.coded.inj)) };
+    ghost matches_eq = { string_ties };
 
     // By what the strings hold, and not by the bytes behind, they are totally ordered.
     fn cmp(&self, other: &ByteString<N>) -> Ordering

@@ -7,5 +7,5 @@ returns c =
     record {
       value = search rules;
       after =
-          same_lists _ _ (search (rules, places)) (λ k d h. let e = c.copy-from-slice.ensures.after in grind (arith, places));
+          same_lists _ _ (search (rules, places)) (λ k d h. let e = c.copy_from_slice.ensures.after in grind (arith, places));
     }

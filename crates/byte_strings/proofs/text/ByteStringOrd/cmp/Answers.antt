@@ -1,5 +1,5 @@
 use Rattle.std.proofs.Common.{rules}
-use Rattle.byte_strings.proofs.StringOrder.{string_order}
+use Rattle.byte_strings.specs.StringOrder.{string_order}
 use Rattle.byte_strings.proofs.text.ByteStringOrd.cmp.Goals as goal
 
 pub returns : goal.returns

@@ -1,11 +1,13 @@
-use Rattle.std.proofs.Common.{sym, ◌∙◌}
+use Rattle.std.proofs.Common.{◌≡◌, sym, ◌∙◌, rules}
+use Rattle.byte_strings.specs.Bytes.{same}
+use Rattle.byte_strings.specs.Texts.{text}
+use Rattle.byte_strings.proofs.TotalOrder.{same_is, is_same}
 use Rattle.byte_strings.proofs.text.ByteStringPartialEq.eq.Goals as goal
-use Rattle.std.proofs.lemmas.Bool.Decides.{Decides-eqb}
-use Rattle.std.proofs.lemmas.Slice.Eq.{slice_eq-Decides}
 
 pub returns : goal.returns
+unfolding same
 returns g c =
-    let d = slice_eq-Decides Decides-eqb c.as-slice.result.now c.as-slice-2.result.now c.eq.result c.eq.ensures in (
-      λ t. sym c.as-slice.ensures ∙ (d.0 t ∙ c.as-slice-2.ensures),
-      λ e. d.1 (c.as-slice.ensures ∙ (e ∙ sym c.as-slice-2.ensures)),
-    )
+    let x = text c.args.self.now in
+    let y = text c.args.other.now in
+    let is : c.eq.result ≡ same x y = search rules in
+    record { value = is; equal = (λ t. same_is x y (sym is ∙ t), λ e. is ∙ is_same x y e) }
