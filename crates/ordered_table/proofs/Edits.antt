@@ -1,10 +1,9 @@
 -- Entries that ascend, when one goes in at its place or comes out. Assumes nothing.
-use Rattle.std.proofs.Common.{◌≡◌, ℕ, zero, suc, Bool, true, false, cond, ◌&&◌, T, List, [], ◌∷◌, ◌++◌, map, length, Ordering, Less, Equal, Greater, sym, refl, ap, ◌∙◌, subst, true≢false}
+use Rattle.std.proofs.Common.{◌≡◌, ℕ, zero, suc, Bool, true, false, cond, ◌&&◌, T, List, [], ◌∷◌, map, Ordering, Less, Equal, Greater, sym, refl, ap, ◌∙◌, subst, true≢false}
 use Rattle.std.specs.Cmp.{IsTotalOrder}
 use Rattle.std.specs.Ordering.{is_lt, is_eq, ordering_reverse}
 use Rattle.std.specs.List.{insert, remove, list_all}
-use Rattle.std.specs.Map.Invariant.{is-strictly-sorted-by}
-use Rattle.ordered_table.specs.Table.{Ascending, holds, place}
+use Rattle.ordered_table.specs.Table.{Ascending, is_strictly_sorted_by, holds, place}
 
 -- ---- tests
 
@@ -74,31 +73,31 @@ module _ {E : Type 0} {R : E → E → Ordering} (o : IsTotalOrder R) where
 
   put_step : (y : E) (ys : List E) (x : E) (r : Ordering) → R y x ≡ r → Ascending R (y ∷ ys) → cond (is_eq r) true (holds R ys x) ≡ false → (holds R ys x ≡ false → Ascending R (insert ys (place R ys x) x)) → Ascending R (insert (y ∷ ys) (cond (is_lt r) (suc (place R ys x)) 0) x)
   put_step y ys x Less e a h ih =
-      both (beyond y (insert ys (place R ys x) x)) (is-strictly-sorted-by R (insert ys (place R ys x) x))
-      (all_put (λ z. is_lt (R y z)) ys (place R ys x) x (left (beyond y ys) (is-strictly-sorted-by R ys) a) (less_test (R y x) e))
+      both (beyond y (insert ys (place R ys x) x)) (is_strictly_sorted_by R (insert ys (place R ys x) x))
+      (all_put (λ z. is_lt (R y z)) ys (place R ys x) x (left (beyond y ys) (is_strictly_sorted_by R ys) a) (less_test (R y x) e))
       (ih h)
   put_step y ys x Equal e a h ih = absurd (true≢false h)
   put_step y ys x Greater e a h ih =
       let l = flipped y x Greater e in
-      both (beyond x (y ∷ ys)) (is-strictly-sorted-by R (y ∷ ys))
-      (both (is_lt (R x y)) (beyond x ys) (less_test (R x y) l) (all_above x y l ys (left (beyond y ys) (is-strictly-sorted-by R ys) a)))
+      both (beyond x (y ∷ ys)) (is_strictly_sorted_by R (y ∷ ys))
+      (both (is_lt (R x y)) (beyond x ys) (less_test (R x y) l) (all_above x y l ys (left (beyond y ys) (is_strictly_sorted_by R ys) a)))
       a
 
   pub ascending_put : (xs : List E) (x : E) → Ascending R xs → holds R xs x ≡ false → Ascending R (insert xs (place R xs x) x)
   unfolding holds place
   ascending_put [] x a h = tt
   ascending_put (y ∷ ys) x a h =
-      put_step y ys x (R y x) refl a h (ascending_put ys x (right (beyond y ys) (is-strictly-sorted-by R ys) a))
+      put_step y ys x (R y x) refl a h (ascending_put ys x (right (beyond y ys) (is_strictly_sorted_by R ys) a))
 
 module _ {E : Type 0} (cmp : E → E → Ordering) where
   pub ascending_cut : (xs : List E) (i : ℕ) → Ascending cmp xs → Ascending cmp (remove xs i)
   ascending_cut [] zero a = tt
   ascending_cut [] (suc i) a = tt
-  ascending_cut (y ∷ ys) zero a = right (list_all (λ z. is_lt (cmp y z)) ys) (is-strictly-sorted-by cmp ys) a
+  ascending_cut (y ∷ ys) zero a = right (list_all (λ z. is_lt (cmp y z)) ys) (is_strictly_sorted_by cmp ys) a
   ascending_cut (y ∷ ys) (suc i) a =
-      both (list_all (λ z. is_lt (cmp y z)) (remove ys i)) (is-strictly-sorted-by cmp (remove ys i))
-      (all_cut (λ z. is_lt (cmp y z)) ys i (left (list_all (λ z. is_lt (cmp y z)) ys) (is-strictly-sorted-by cmp ys) a))
-      (ascending_cut ys i (right (list_all (λ z. is_lt (cmp y z)) ys) (is-strictly-sorted-by cmp ys) a))
+      both (list_all (λ z. is_lt (cmp y z)) (remove ys i)) (is_strictly_sorted_by cmp (remove ys i))
+      (all_cut (λ z. is_lt (cmp y z)) ys i (left (list_all (λ z. is_lt (cmp y z)) ys) (is_strictly_sorted_by cmp ys) a))
+      (ascending_cut ys i (right (list_all (λ z. is_lt (cmp y z)) ys) (is_strictly_sorted_by cmp ys) a))
 
 module _ {X Y : Type 0} (f : X → Y) where
   pub map-inserted : (xs : List X) (i : ℕ) (x : X) → map f (insert xs i x) ≡ insert (map f xs) i (f x)

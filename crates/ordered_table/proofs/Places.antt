@@ -1,20 +1,28 @@
 -- Where an entry stands among entries that ascend. Assumes nothing.
-use Rattle.std.proofs.Common.{◌≡◌, ℕ, zero, suc, ◌+◌, ◌<◌, ◌≤◌, Bool, true, false, cond, ◌&&◌, T, ◌⊎◌, List, [], ◌∷◌, map, length, get_or, Ok, Err, Result, Ordering, Less, Equal, Greater, sym, refl, ap, ◌∙◌, subst, inl, inr, ⊎_elim, true≢false, suc-le-suc, zero-le, le_of_suc-le-suc, not-suc-le-zero, arith, MatchResult}
+use Rattle.std.proofs.Common.{◌≡◌, ℕ, zero, suc, ◌+◌, ◌<◌, ◌≤◌, Bool, true, false, cond, ◌&&◌, T, List, [], ◌∷◌, map, length, get_or, Ok, Err, Result, Ordering, Less, Equal, Greater, sym, refl, ap, ◌∙◌, ⊎_elim, true≢false, suc-le-suc, zero-le, le_of_suc-le-suc, not-suc-le-zero, arith, MatchResult}
 use Rattle.std.specs.Cmp.{IsTotalOrder, alike_right}
 use Rattle.std.specs.Ordering.{is_lt, is_eq, ordering_reverse, ordering_index}
 use Rattle.std.specs.List.Sorted.{IsBinarySearchResult, IsNonDecreasingBy}
 use Rattle.std.specs.List.{list_all}
-use Rattle.std.specs.Map.Invariant.{is-strictly-sorted-by}
-use Rattle.std.proofs.lemmas.Map.Invariant.{sorted-from-test}
-use Rattle.std.proofs.lemmas.Map.Keys.{Less-from_sorted}
 use Rattle.std.proofs.lemmas.List.Sorted.{searchable_from_sorted}
 use Rattle.std.proofs.lemmas.Bool.{cases_eq, cases_lt}
-use Rattle.ordered_table.specs.Table.{Ascending, holds, place, searched}
-use Rattle.ordered_table.proofs.Edits.{flipped}
+use Rattle.ordered_table.specs.Table.{Ascending, is_strictly_sorted_by, holds, place, searched}
+use Rattle.ordered_table.proofs.Edits.{flipped, is_less, left, right}
 
 module _ {E : Type 0} (cmp : E → E → Ordering) where
+  before_each : (x : E) (ys : List E) (j : ℕ) (d : E) → T (list_all (λ y. is_lt (cmp x y)) ys) → j < length ys → cmp x (get_or ys j d) ≡ Less
+  before_each x [] j d a l = absurd (not-suc-le-zero l)
+  before_each x (y ∷ ys) zero d a l = is_less (cmp x y) (left (is_lt (cmp x y)) (list_all (λ y. is_lt (cmp x y)) ys) a)
+  before_each x (y ∷ ys) (suc j) d a l =
+      before_each x ys j d (right (is_lt (cmp x y)) (list_all (λ y. is_lt (cmp x y)) ys) a) (le_of_suc-le-suc l)
+
   pub ordered : (xs : List E) (i j : ℕ) (d : E) → Ascending cmp xs → i < j → j < length xs → cmp (get_or xs i d) (get_or xs j d) ≡ Less
-  ordered xs i j d up h l = Less-from_sorted cmp xs i j d (sorted-from-test cmp xs up) h l
+  ordered [] i j d up h l = absurd (not-suc-le-zero l)
+  ordered (y ∷ ys) i zero d up h l = absurd (not-suc-le-zero h)
+  ordered (y ∷ ys) zero (suc j) d up h l =
+      before_each y ys j d (left (list_all (λ z. is_lt (cmp y z)) ys) (is_strictly_sorted_by cmp ys) up) (le_of_suc-le-suc l)
+  ordered (y ∷ ys) (suc i) (suc j) d up h l =
+      ordered ys i j d (right (list_all (λ z. is_lt (cmp y z)) ys) (is_strictly_sorted_by cmp ys) up) (le_of_suc-le-suc h) (le_of_suc-le-suc l)
 
   pub place_is : (xs : List E) (x d : E) (i : ℕ) → i ≤ length xs → ((k : ℕ) → k < i → cmp (get_or xs k d) x ≡ Less) → (i < length xs → is_lt (cmp (get_or xs i d) x) ≡ false) → place cmp xs x ≡ i
   unfolding place
@@ -118,6 +126,6 @@ module _ {E K : Type 0} (key : E → K) (cmp : K → K → Ordering) where
   pass_keys x [] = refl
   pass_keys x (y ∷ ys) = ap (λ b. is_lt (by_key x y) && b) (pass_keys x ys)
 
-  pub sorted_keys : (xs : List E) → is-strictly-sorted-by by_key xs ≡ is-strictly-sorted-by cmp (map key xs)
+  pub sorted_keys : (xs : List E) → is_strictly_sorted_by by_key xs ≡ is_strictly_sorted_by cmp (map key xs)
   sorted_keys [] = refl
   sorted_keys (x ∷ xs) = λ t. pass_keys x xs t && sorted_keys xs t

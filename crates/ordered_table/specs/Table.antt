@@ -5,17 +5,20 @@
 --     searched               what a search answers: the place of what is there, or of what is not
 --     insertion, removal     what an insertion and a removal answer
 --     inserted_by, removed_by     what they leave in the cells
-use Rattle.std.specs.Prelude.{ℕ, suc, pred, ◌+◌, Bool, true, false, cond, T, List, [], ◌∷◌, ◌++◌, length, take, drop, Some, None, Ok, Err, Option, Result, nat_le}
+use Rattle.std.specs.Prelude.{ℕ, suc, pred, ◌+◌, Bool, true, false, cond, ◌&&◌, T, List, [], ◌∷◌, ◌++◌, take, drop, Some, None, Ok, Err, Option, Result, nat_le}
 use Rattle.std.specs.declared.cmp.Ordering.{Ordering}
 use Rattle.std.specs.Ordering.{is_lt, is_eq}
-use Rattle.std.specs.Map.Invariant.{is-strictly-sorted-by}
-use Rattle.std.specs.List.{insert, remove}
+use Rattle.std.specs.List.{insert, remove, list_all}
 use Rattle.ordered_table.specs.declared.fault.InsertFault.{InsertFault}
 use Rattle.ordered_table.specs.declared.fault.InsertFault.TheVariants.{Present, Full}
 
 module _ {E : Type 0} (cmp : E → E → Ordering) where
+  abbrev pub is_strictly_sorted_by : List E → Bool
+  is_strictly_sorted_by [] = true
+  is_strictly_sorted_by (x ∷ xs) = list_all (λ y. is_lt (cmp x y)) xs && is_strictly_sorted_by xs
+
   abbrev pub Ascending : List E → Type 0
-  Ascending xs = T (is-strictly-sorted-by cmp xs)
+  Ascending xs = T (is_strictly_sorted_by xs)
 
   unfoldable pub holds : List E → E → Bool
   holds [] x = false

@@ -1,5 +1,7 @@
 // One ordered table over a caller's slice, for every entry that has a total order. The first `used` cells hold the
 // entries, strictly ascending; the cells behind them are free.
+#![tactic(auto)]
+
 ghost use Rattle.std.specs.Prelude.{◌≡◌, ◌<◌, ◌≤◌, min, length, take, MatchResult};
 ghost use Rattle.std.specs.Cmp.{IsTotalOrder};
 ghost use Rattle.ordered_table.specs.Table.{Ascending, searched, insertion, removal, inserted_by, removed_by, used_after_insert, used_after_remove};
