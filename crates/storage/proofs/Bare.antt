@@ -1,23 +1,22 @@
 -- What a file of rows answers and leaves, by the list of its rows. Assumes nothing.
-use Rattle.std.proofs.Common.{◌≡◌, ℕ, zero, suc, ◌<◌, ◌≤◌, min, Bool, true, false, cond, not, ◌||◌, eqb, ltb, leb, List, [], ◌∷◌, ◌++◌, length, get_or, take, is_some, Some, None, Ok, Err, Option, Result, sym, refl, ap, ◌∙◌, subst, zero-add, arith}
+use Rattle.std.proofs.Common.{◌≡◌, ℕ, zero, suc, ◌<◌, ◌≤◌, Bool, true, false, cond, not, ◌||◌, eqb, ltb, leb, List, [], ◌∷◌, ◌++◌, length, get_or, take, is_some, Some, None, Ok, Err, Option, Result, sym, refl, ap, ◌∙◌, subst, zero-add, arith}
 use native.Mathlib.Nat.{zero-min}
 use Rattle.std.specs.List.{slice_get, insert, remove}
 use Rattle.std.specs.Ordering.{is_eq}
 use Rattle.std.proofs.lemmas.List.{length-map}
 use Rattle.std.proofs.lemmas.Option.{slice_get-get_or, slice_get_past}
 use Rattle.std.proofs.lemmas.Bool.{le-leb, lt-leb, ltb-false, or_parts}
-use Rattle.byte_strings.specs.Bytes.{Bytes, order, same}
+use Rattle.byte_strings.specs.Bytes.{Bytes, order}
 use Rattle.byte_strings.proofs.TotalOrder.{same_order}
 use Rattle.ordered_table.specs.Table.{holds, place}
 use Rattle.ordered_table.proofs.Edits.{map-inserted, map-removed}
-use Rattle.storage.specs.declared.faults.Absent.{Absent}
 use Rattle.storage.specs.declared.faults.RowFault.{RowFault}
 use Rattle.storage.specs.declared.faults.RowFault.TheVariants.{AlreadyExists, NotFound, IllegalCount, FileFull}
 use Rattle.storage.specs.declared.mark.PositionMark.{PositionMark}
 use Rattle.storage.specs.Checks.{first, settled}
 use Rattle.storage.specs.Pairs.{Ascending, total, keys, next, under, placed, without}
 use Rattle.storage.specs.Places.{next_place}
-use Rattle.storage.specs.Reading.{found, fetched, filled}
+use Rattle.storage.specs.Reading.{fetched, filled}
 use Rattle.storage.specs.Rows.{bare, keys_bare, row_checks, add_checks, drop_checks}
 use Rattle.storage.proofs.Places.{placed_at, without_at, next-at}
 

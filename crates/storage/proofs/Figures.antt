@@ -1,7 +1,7 @@
 -- The number of pairs and the total of their bytes after a pair was put in, changed or taken out. Assumes nothing.
 use Rattle.std.proofs.Common.{◌≡◌, ℕ, suc, ◌+◌, ◌-◌, ◌≤◌, true, T, List, [], ◌∷◌, length, Some, None, Option, refl, subst, arith}
 use Rattle.std.specs.Option.{option_map}
-use Rattle.std.specs.Map.Invariant.{is-strictly-sorted-by}
+use Rattle.ordered_table.specs.Table.{is_strictly_sorted_by}
 use Rattle.byte_strings.specs.Bytes.{Bytes, order, same}
 use Rattle.byte_strings.proofs.TotalOrder.{total_order, same_is}
 use Rattle.ordered_table.proofs.Edits.{left, right, beyond, none_beyond}
@@ -14,7 +14,7 @@ of_length None n h = let z : ◌≡◌ {A = ℕ} 0 1 = cc in absurd (omega arith
 of_length (Some old) n h = (old, refl, cc)
 
 pub rest_ascending : {A : Type 0} (p : Bytes × A) (ps : List (Bytes × A)) → Ascending (keys (p ∷ ps)) → Ascending (keys ps)
-rest_ascending p ps up = right (beyond total_order p.0 (keys ps)) (is-strictly-sorted-by order (keys ps)) up
+rest_ascending p ps up = right (beyond total_order p.0 (keys ps)) (is_strictly_sorted_by order (keys ps)) up
 
 -- ---- how many pairs there are
 
@@ -32,7 +32,7 @@ module _ {A : Type 0} (κ : Bytes) where
   -- behind the first pair with the key no other has it
   pub alone : (p : Bytes × A) (ps : List (Bytes × A)) → Ascending (keys (p ∷ ps)) → same p.0 κ ≡ true → without κ ps ≡ ps
   alone p ps up s =
-      let above = left (beyond total_order p.0 (keys ps)) (is-strictly-sorted-by order (keys ps)) up in
+      let above = left (beyond total_order p.0 (keys ps)) (is_strictly_sorted_by order (keys ps)) up in
       without-none κ ps (none_beyond total_order κ (keys ps) (subst (λ k. T (beyond total_order k (keys ps))) (same_is p.0 κ s) above))
 
   pub length_without : (old : A) (ps : List (Bytes × A)) → Ascending (keys ps) → under κ ps ≡ Some old → length (without κ ps) + 1 ≡ length ps

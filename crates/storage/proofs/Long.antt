@@ -1,8 +1,8 @@
 -- Keys of at most n bytes, and a sought string that is longer: it is not among them, and its place is right behind
 -- that of its front. Assumes nothing.
-use Rattle.std.proofs.Common.{◌≡◌, ℕ, suc, ◌<◌, ◌≤◌, Bool, true, false, cond, T, leb, List, [], ◌∷◌, length, take, Ordering, Less, Equal, Greater, sym, refl, ap, ◌∙◌}
+use Rattle.std.proofs.Common.{◌≡◌, ℕ, suc, ◌<◌, Bool, true, false, cond, T, leb, List, [], ◌∷◌, length, take, Ordering, Less, Equal, Greater, sym, refl, ap, ◌∙◌}
 use Rattle.std.specs.Ordering.{is_lt, is_eq}
-use Rattle.std.specs.Map.Invariant.{is-strictly-sorted-by}
+use Rattle.ordered_table.specs.Table.{is_strictly_sorted_by}
 use Rattle.std.proofs.lemmas.Bool.{leb-true}
 use Rattle.byte_strings.specs.Bytes.{Bytes, order}
 use Rattle.byte_strings.proofs.LongProbes.{with_more, order-long}
@@ -53,5 +53,5 @@ module _ (n : ℕ) (x : Bytes) (long : n < length x) where
   place-long [] up s = refl
   place-long (k ∷ ks) up s =
       ap (λ o. cond (is_lt o) (suc (place order ks x)) 0) (by_front k (left (leb (length k) n) (short n ks) s))
-      ∙ place_step k ks (order k front) refl (left (beyond total_order k ks) (is-strictly-sorted-by order ks) up) (right (leb (length k) n) (short n ks) s)
-      (place-long ks (right (beyond total_order k ks) (is-strictly-sorted-by order ks) up) (right (leb (length k) n) (short n ks) s))
+      ∙ place_step k ks (order k front) refl (left (beyond total_order k ks) (is_strictly_sorted_by order ks) up) (right (leb (length k) n) (short n ks) s)
+      (place-long ks (right (beyond total_order k ks) (is_strictly_sorted_by order ks) up) (right (leb (length k) n) (short n ks) s))

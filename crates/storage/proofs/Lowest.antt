@@ -1,7 +1,7 @@
 -- What is found in an ascending list is the lowest key that is reached. Assumes nothing.
 use Rattle.std.proofs.Common.{◌≡◌, ℕ, Bool, true, false, cond, ◌||◌, T, List, [], ◌∷◌, Some, None, Option, sym, refl, ap, ◌∙◌, subst, true≢false, arith}
 use Rattle.std.specs.Ordering.{is_lt}
-use Rattle.std.specs.Map.Invariant.{is-strictly-sorted-by}
+use Rattle.ordered_table.specs.Table.{is_strictly_sorted_by}
 use Rattle.byte_strings.specs.Bytes.{Bytes, order, below, same}
 use Rattle.byte_strings.proofs.TotalOrder.{total_order, is_same, same_is, less_below, below-asym, below_irrefl}
 use Rattle.ordered_table.proofs.Edits.{left, right, is_less, beyond}
@@ -81,11 +81,11 @@ module _ (mark : PositionMark) (from : Bytes) where
       subst (λ z. below y z ≡ false) s
       (one_of k ks y (below y k ≡ false) h
       (λ t. ap (λ z. below z k) (sym t) ∙ below_irrefl k)
-      (above k y ks (left (beyond total_order k ks) (is-strictly-sorted-by order ks) up))))
+      (above k y ks (left (beyond total_order k ks) (is_strictly_sorted_by order ks) up))))
       (λ out o.
       one_of k ks y (below y x ≡ false) h
       (λ t. absurd (true≢false (sym r ∙ (ap reached_by (sym t) ∙ out))))
-      (λ there. lowest ks (right (beyond total_order k ks) (is-strictly-sorted-by order ks) up) x o y there r))
+      (λ there. lowest ks (right (beyond total_order k ks) (is_strictly_sorted_by order ks) up) x o y there r))
 
 pub finds_lowest : (mark : PositionMark) (from : Bytes) (ks : List Bytes) → Ascending ks → LowestFound mark from ks
 finds_lowest mark from ks up =

@@ -1,6 +1,5 @@
 -- Placing, replacing and removing alter what stands under their own key, and nothing else. Assumes nothing.
 use Rattle.std.proofs.Common.{◌≡◌, ℕ, Bool, true, false, cond, not, ◌||◌, eqb, ltb, leb, List, [], ◌∷◌, length, is_some, Some, None, Ok, Option, sym, refl, ap, ◌∙◌, subst, true≢false, arith}
-use Rattle.std.specs.Ordering.{is_eq}
 use Rattle.byte_strings.specs.Bytes.{Bytes, order, below, same}
 use Rattle.byte_strings.proofs.TotalOrder.{is_same, same_is, same_order, total_order}
 use Rattle.ordered_table.specs.Table.{holds, place}

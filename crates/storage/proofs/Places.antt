@@ -1,8 +1,8 @@
 -- Pairs by the place that a key has in the ordered table of the keys. Assumes nothing.
-use Rattle.std.proofs.Common.{◌≡◌, ℕ, zero, suc, Bool, true, false, cond, not, T, List, [], ◌∷◌, Some, None, Option, Ordering, Less, Equal, Greater, sym, refl, ap, ◌∙◌, subst, true≢false}
+use Rattle.std.proofs.Common.{◌≡◌, ℕ, suc, Bool, true, false, cond, not, T, List, [], ◌∷◌, Some, Ordering, Less, Equal, Greater, sym, refl, ap, ◌∙◌, subst, true≢false}
 use Rattle.std.specs.List.{slice_get, insert, remove}
 use Rattle.std.specs.Ordering.{is_lt, is_eq, ordering_reverse}
-use Rattle.std.specs.Map.Invariant.{is-strictly-sorted-by}
+use Rattle.ordered_table.specs.Table.{is_strictly_sorted_by}
 use Rattle.byte_strings.specs.Bytes.{Bytes, order, below, same}
 use Rattle.byte_strings.proofs.TotalOrder.{total_order, equal_is, same_order}
 use Rattle.ordered_table.specs.Table.{holds, place}
@@ -59,8 +59,8 @@ module _ {A : Type 0} where
   without_at κ [] up h = absurd (true≢false (sym h))
   without_at κ (p ∷ ps) up h =
       ap (λ b. cond b (without κ ps) (p ∷ without κ ps)) (sym (same_order p.0 κ))
-      ∙ without_step κ p ps (order p.0 κ) refl (left (beyond total_order p.0 (keys ps)) (is-strictly-sorted-by order (keys ps)) up) h
-      (without_at κ ps (right (beyond total_order p.0 (keys ps)) (is-strictly-sorted-by order (keys ps)) up))
+      ∙ without_step κ p ps (order p.0 κ) refl (left (beyond total_order p.0 (keys ps)) (is_strictly_sorted_by order (keys ps)) up) h
+      (without_at κ ps (right (beyond total_order p.0 (keys ps)) (is_strictly_sorted_by order (keys ps)) up))
 
 -- ---- the next key
 
@@ -101,5 +101,5 @@ next-at At x [] up = refl
 next-at Beyond x [] up = refl
 next-at mark x (k ∷ ks) up =
     ap (λ b. cond b (Some k) (next mark x ks)) (reached-is mark x k)
-    ∙ next_step mark x k ks (order k x) refl (left (beyond total_order k ks) (is-strictly-sorted-by order ks) up)
-    (next-at mark x ks (right (beyond total_order k ks) (is-strictly-sorted-by order ks) up))
+    ∙ next_step mark x k ks (order k x) refl (left (beyond total_order k ks) (is_strictly_sorted_by order ks) up)
+    (next-at mark x ks (right (beyond total_order k ks) (is_strictly_sorted_by order ks) up))

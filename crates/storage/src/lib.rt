@@ -1,5 +1,7 @@
 // What stands below the record manager: files that are read in the order of their keys, the primary file that holds
 // the records and the key-row file that holds the rows of the alternate keys.
+#![tactic(auto)]
+
 mod bounds;
 mod checks;
 mod faults;

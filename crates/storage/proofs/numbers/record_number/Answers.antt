@@ -10,7 +10,7 @@ loop-b-preserved c =
     let n = c.loop-b.number in
     let b = get_or c.args.key.now c.loop-b.b-index 0 in
     let rest = drop (c.loop-b.b-index + 1) c.args.key.now in
-    let e : c.saturating-add-number.result ≡ min (min (n * 256) most + b) most = cc in (
+    let e : c.saturating_add-number.result ≡ min (min (n * 256) most + b) most = cc in (
       ap (λ m. min (number_from m rest) most) e
           ∙ (number_step n b most rest
           ∙ (sym (at_drop_more (λ bs. min (number_from n bs) most) c.args.key.now c.loop-b.b-index 0 (omega arith))
@@ -33,5 +33,5 @@ returns c =
     let e = cut c in
     record {
       value = e;
-      four = λ long. let below = number_bounded c.args.key.now long (λ i. omega (arith, c.type-inv.key i)) in omega arith;
+      four = λ long. let below = number_bounded c.args.key.now long (λ i. omega (arith, c.type_inv.key i)) in omega arith;
     }

@@ -1,4 +1,4 @@
-use Rattle.std.proofs.Common.{◌≡◌, ℕ, length, is_some, is_ok, Some, None, Option, refl, ap, ◌∙◌}
+use Rattle.std.proofs.Common.{◌≡◌, ℕ, is_some, is_ok, Some, None, Option, refl, ap, ◌∙◌}
 use Rattle.byte_strings.specs.Bytes.{Bytes}
 use Rattle.storage.specs.Pairs.{under}
 use Rattle.storage.specs.Reading.{fetched}
@@ -14,7 +14,7 @@ pub returns : goal.returns
 returns g c =
     record {
       value =
-          c.is-ok.ensures.value
+          c.is_ok.ensures.value
           ∙ (ap is_ok c.fetch.ensures.value ∙ fetched_ok (under c.args.key.now (g.R.OrderedReading.pairs c.args.file.now)) 0);
       own_pair = own_pair;
       order = order_kept;

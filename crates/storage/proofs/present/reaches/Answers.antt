@@ -1,4 +1,4 @@
-use Rattle.std.proofs.Common.{◌≡◌, not, sym, ap, ◌∙◌}
+use Rattle.std.proofs.Common.{not, sym, ap, ◌∙◌}
 use Rattle.std.specs.Ordering.{is_lt}
 use Rattle.byte_strings.specs.Bytes.{below}
 use Rattle.storage.specs.Pairs.{reached}
@@ -10,7 +10,7 @@ unfolding below
 returns-in-At c =
     record {
       value =
-          ap not (c.is-lt.ensures ∙ ap is_lt c.compare.ensures.value)
+          ap not (c.is_lt.ensures ∙ ap is_lt c.compare.ensures.value)
           ∙ sym (ap (λ m. reached m c.args.from.now c.args.key.now) c.in-At.is);
       lowest = finds_lowest;
     }
@@ -20,7 +20,7 @@ unfolding below
 returns-in-Beyond c =
     record {
       value =
-          c.is-lt-in-Beyond.ensures
+          c.is_lt-in-Beyond.ensures
           ∙ (ap is_lt c.compare-in-Beyond.ensures.value ∙ sym (ap (λ m. reached m c.args.from.now c.args.key.now) c.in-Beyond.is));
       lowest = finds_lowest;
     }
