@@ -1,4 +1,6 @@
 // Pseudo-random numbers for trials, the same in every run.
+#![tactic(auto)]
+
 ghost use Rattle.std.specs.Prelude.{◌≡◌};
 ghost use Rattle.dice.specs.Draws.{next_state, drawn};
 

@@ -1,20 +1,17 @@
 -- The order by record numbers is total, and an entry stands at its number's place. Assumes nothing.
-use Rattle.std.proofs.Common.{◌≡◌, ℕ, suc, ◌<◌, Bool, true, false, cond, T, eqb, List, [], ◌∷◌, get_or, Some, None, Option, Ordering, Less, Equal, Greater, sym, refl, ap, ◌∙◌, subst, true≢false}
+use Rattle.std.proofs.Common.{◌≡◌, suc, Bool, true, false, cond, T, eqb, List, [], ◌∷◌, get_or, Some, None, Option, Ordering, Less, Equal, Greater, sym, refl, ap, ◌∙◌, true≢false}
 use Rattle.std.specs.Cmp.{IsTotalOrder, nat_cmp_total, unsigned_tied}
-use Rattle.std.specs.Ordering.{is_lt, is_eq, MatchOrdering}
-use Rattle.std.specs.Map.Invariant.{is-strictly-sorted-by}
-use Rattle.ordered_table.specs.Table.{Ascending, holds, place}
+use Rattle.std.specs.Ordering.{is_lt, is_eq}
+use Rattle.ordered_table.specs.Table.{Ascending, is_strictly_sorted_by, holds, place}
 use Rattle.ordered_table.proofs.Edits.{left, right, beyond, all_above, flipped, none_beyond}
 use Rattle.entry_directory.specs.declared.entry.DirectoryEntry.{DirectoryEntry}
 use Rattle.entry_directory.specs.Numbers.{by_number, entry_of}
 
-abbrev pub number_order : IsTotalOrder (λ (x y : DirectoryEntry) (r : Ordering). MatchOrdering r (x.number < y.number) (x.number ≡ y.number) (y.number < x.number))
+pub number_order : IsTotalOrder by_number
 number_order = record {
-  cmp = by_number;
-  says = λ x y. nat_cmp_total.says x.number y.number;
-  flip = λ x y. nat_cmp_total.antisymm x.number y.number;
+  antisymm = λ x y. nat_cmp_total.antisymm x.number y.number;
   trans = λ x y z. nat_cmp_total.trans x.number y.number z.number;
-  alike = λ x y z. nat_cmp_total.congr x.number y.number z.number;
+  congr = λ x y z. nat_cmp_total.congr x.number y.number z.number;
 }
 
 module _ (probe : DirectoryEntry) where
@@ -41,5 +38,5 @@ module _ (probe : DirectoryEntry) where
   entry_held [] d up h = absurd (true≢false (sym h))
   entry_held (e ∷ es) d up h =
       ap (λ b. cond b (Some e) (entry_of probe.number es)) (sym (unsigned_tied e.number probe.number))
-      ∙ held_step e d es (by_number e probe) refl (left (beyond number_order e es) (is-strictly-sorted-by by_number es) up) h
-      (entry_held es d (right (beyond number_order e es) (is-strictly-sorted-by by_number es) up))
+      ∙ held_step e d es (by_number e probe) refl (left (beyond number_order e es) (is_strictly_sorted_by by_number es) up) h
+      (entry_held es d (right (beyond number_order e es) (is_strictly_sorted_by by_number es) up))

@@ -1,4 +1,6 @@
 // The directory of packed records: where each record's bytes stand, by record number, in the ordered table.
+#![tactic(auto)]
+
 mod directory;
 mod entry;
 mod lookup;

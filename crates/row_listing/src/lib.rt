@@ -1,4 +1,6 @@
 // All rows of a file in their order, by finding from row to row.
+#![tactic(auto)]
+
 ghost use Rattle.std.specs.Prelude.{◌≡◌, T, [], map, take, IfOk};
 ghost use Rattle.std.specs.Option.{unwrap_or};
 ghost use Rattle.byte_strings.specs.Texts.{text};

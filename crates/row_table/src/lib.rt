@@ -1,4 +1,6 @@
 // A key-row file that keeps its rows in the ordered table, over memory that the caller lends.
+#![tactic(auto)]
+
 mod reading;
 mod rows;
 mod seek;

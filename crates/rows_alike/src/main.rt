@@ -1,4 +1,6 @@
 // Both key-row files, given the same 1,000 pseudo-random calls: every answer and every buffer must be alike.
+#![tactic(auto)]
+
 mod draws;
 mod steps;
 mod tally;

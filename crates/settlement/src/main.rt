@@ -1,5 +1,7 @@
 // The settlement firm's batch: deliveries come in, one a line, and each region's list with its sum goes out. The
 // lists are read along the alternate key 'region', from two key-row files of different make that must agree.
+#![tactic(auto)]
+
 mod batch;
 mod delivery;
 mod flaw;

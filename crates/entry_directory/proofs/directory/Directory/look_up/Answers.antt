@@ -1,4 +1,4 @@
-use Rattle.std.proofs.Common.{◌≡◌, ◌<◌, length, get_or, take, Some, sym, ap, ◌∙◌, arith}
+use Rattle.std.proofs.Common.{◌<◌, length, get_or, Some, sym, ap, ◌∙◌, arith}
 use Rattle.std.proofs.lemmas.List.{get_or-take, length-take}
 use Rattle.ordered_table.specs.Table.{holds, place}
 use Rattle.ordered_table.proofs.Outcomes.{is_there, not_there}
@@ -8,11 +8,11 @@ use Rattle.entry_directory.specs.Numbers.{by_number}
 use Rattle.entry_directory.proofs.Lookups.{number_order, entry_missing, entry_held}
 use Rattle.entry_directory.proofs.directory.Directory.look_up.Goals as goal
 
-pub returns-in-default : goal.returns-in-default
-returns-in-default c =
+pub returns-in_default : goal.returns-in_default
+returns-in_default c =
     let d = c.args.self.now in
     let probe : DirectoryEntry = record { number = c.args.number; start = 0; len = 0 } in
-    sym (entry_missing probe (listed d) (not_there (holds by_number (listed d) probe) (place by_number (listed d) probe) c.in-default.field-0 (c.in-default.ensures.value number_order d.ascending)).0)
+    sym (entry_missing probe (listed d) (not_there (holds by_number (listed d) probe) (place by_number (listed d) probe) c.in_default.field-0 (c.in_default.ensures.value number_order d.ascending)).0)
 
 pub returns : goal.returns
 returns c =
