@@ -1,12 +1,12 @@
 -- The rows after the ordered table took an entry in or out. Assumes nothing.
-use Rattle.std.proofs.Common.{◌≡◌, ℕ, ◌+◌, ◌-◌, ◌<◌, ◌≤◌, Bool, true, false, cond, ◌||◌, eqb, ltb, leb, List, map, length, take, Some, None, Ok, Err, Option, Result, Ordering, sym, refl, ap, ◌∙◌, subst, arith}
+use Rattle.std.proofs.Common.{◌≡◌, ℕ, ◌+◌, ◌-◌, ◌<◌, ◌≤◌, Bool, true, false, cond, ◌||◌, eqb, ltb, leb, List, map, length, take, Some, None, Ok, Err, Option, Result, Ordering, sym, ap, ◌∙◌, subst, arith}
 use Rattle.std.specs.Cmp.{IsTotalOrder}
 use Rattle.std.specs.List.{insert, remove}
 use Rattle.std.proofs.lemmas.List.{length-take, take_all}
 use Rattle.byte_strings.specs.declared.string.ByteString.{ByteString}
 use Rattle.byte_strings.specs.Bytes.{Bytes, order}
 use Rattle.byte_strings.specs.Texts.{text}
-use Rattle.byte_strings.proofs.StringOrder.{string_order}
+use Rattle.byte_strings.specs.StringOrder.{string_order}
 use Rattle.ordered_table.specs.declared.fault.InsertFault.{InsertFault}
 use Rattle.ordered_table.specs.declared.fault.InsertFault.TheVariants.{Present, Full}
 use Rattle.ordered_table.specs.Table.{Ascending, holds, place, insertion, removal, inserted_by, removed_by}
@@ -32,8 +32,8 @@ refused_as true full at f e = let p : f ≡ Present = cc in ap (λ g. Err (row_f
 refused_as false true at f e = let p : f ≡ Full = cc in ap (λ g. Err (row_fault g)) p
 refused_as false false at f e = let z : ◌≡◌ {A = ℕ} 0 1 = cc in absurd (omega arith)
 
-abbrev ByText : ByteString 66 → ByteString 66 → Ordering → Type 0
-ByText x y r = r ≡ order (text x) (text y)
+abbrev by_text : ByteString 66 → ByteString 66 → Ordering
+by_text x y = order (text x) (text y)
 
 -- ---- the table was lent the cells for a row and the entry that holds it
 
@@ -47,10 +47,10 @@ module _ (lent cells : List (ByteString 66)) (e : lent ≡ cells) (used : ℕ) (
   lent_ascend : Ascending (by_key text order) (take used lent)
   lent_ascend = cells_ascend lent used (subst (λ ys. Ascending order (rows_in ys used)) (sym e) up)
 
-  inserting : (r : Result ℕ InsertFault) → ((o : IsTotalOrder ByText) → Ascending ByText (take used lent) → r ≡ insertion ByText (length lent) used (take used lent) entry) → r ≡ insertion (by_key text order) (length cells) used xs entry
+  inserting : (r : Result ℕ InsertFault) → ((o : IsTotalOrder by_text) → Ascending by_text (take used lent) → r ≡ insertion by_text (length lent) used (take used lent) entry) → r ≡ insertion (by_key text order) (length cells) used xs entry
   inserting r v = v string_order lent_ascend ∙ ap (λ ys. insertion (by_key text order) (length ys) used (take used ys) entry) e
 
-  removing : (r : Option ℕ) → ((o : IsTotalOrder ByText) → Ascending ByText (take used lent) → r ≡ removal ByText (take used lent) entry) → r ≡ removal (by_key text order) xs entry
+  removing : (r : Option ℕ) → ((o : IsTotalOrder by_text) → Ascending by_text (take used lent) → r ≡ removal by_text (take used lent) entry) → r ≡ removal (by_key text order) xs entry
   removing r v = v string_order lent_ascend ∙ ap (λ ys. removal (by_key text order) (take used ys) entry) e
 
   there : holds (by_key text order) xs entry ≡ holds order rows row
@@ -59,17 +59,17 @@ module _ (lent cells : List (ByteString 66)) (e : lent ≡ cells) (used : ℕ) (
   stands : place (by_key text order) xs entry ≡ place order rows row
   stands = place-row cells used row entry is fits
 
-  pub not_added : (f : InsertFault) → (eqb (length row) 0 || ltb 66 (length row)) ≡ false → ((o : IsTotalOrder ByText) → Ascending ByText (take used lent) → Err f ≡ insertion ByText (length lent) used (take used lent) entry) → Err (row_fault f) ≡ settled (first (add_checks (length cells) (bare rows) row))
+  pub not_added : (f : InsertFault) → (eqb (length row) 0 || ltb 66 (length row)) ≡ false → ((o : IsTotalOrder by_text) → Ascending by_text (take used lent) → Err f ≡ insertion by_text (length lent) used (take used lent) entry) → Err (row_fault f) ≡ settled (first (add_checks (length cells) (bare rows) row))
   not_added f ok v =
       refused_as (holds (by_key text order) xs entry) (leb (length cells) used) (place (by_key text order) xs entry) f (inserting (Err f) v)
       ∙ ((λ t. outcome (there t) (leb (length cells) (sym (length-rows cells used within) t))) ∙ sym (add_is rows row (length cells) ok))
 
-  pub not_dropped : ((o : IsTotalOrder ByText) → Ascending ByText (take used lent) → None ≡ removal ByText (take used lent) entry) → holds order rows row ≡ false
+  pub not_dropped : ((o : IsTotalOrder by_text) → Ascending by_text (take used lent) → None ≡ removal by_text (take used lent) entry) → holds order rows row ≡ false
   not_dropped v = sym there ∙ removal_refused (by_key text order) xs entry (removing None v)
 
   module _ (after : List (ByteString 66)) (at : ℕ) where
     -- the row was not there, there was room, and the rows are those before with it
-    pub added : ((o : IsTotalOrder ByText) → Ascending ByText (take used lent) → Ok at ≡ insertion ByText (length lent) used (take used lent) entry) → after ≡ inserted_by (Ok at) lent used entry → (holds order rows row ≡ false) × (used < length cells) × (rows_in after (used + 1) ≡ insert rows (place order rows row) row)
+    pub added : ((o : IsTotalOrder by_text) → Ascending by_text (take used lent) → Ok at ≡ insertion by_text (length lent) used (take used lent) entry) → after ≡ inserted_by (Ok at) lent used entry → (holds order rows row ≡ false) × (used < length cells) × (rows_in after (used + 1) ≡ insert rows (place order rows row) row)
     added v left =
         let f = insertion_accepted (by_key text order) xs entry (length cells) used at (inserting (Ok at) v) in
         let le : at ≤ length xs = subst (λ i. i ≤ length xs) f.2 (place_le (by_key text order) xs entry) in (
@@ -81,7 +81,7 @@ module _ (lent cells : List (ByteString 66)) (e : lent ≡ cells) (used : ℕ) (
         )
 
     -- the row was there, and the rows are those before without it
-    pub dropped : ((o : IsTotalOrder ByText) → Ascending ByText (take used lent) → Some at ≡ removal ByText (take used lent) entry) → after ≡ removed_by (Some at) lent used → (holds order rows row ≡ true) × (0 < used) × (rows_in after (used - 1) ≡ remove rows (place order rows row))
+    pub dropped : ((o : IsTotalOrder by_text) → Ascending by_text (take used lent) → Some at ≡ removal by_text (take used lent) entry) → after ≡ removed_by (Some at) lent used → (holds order rows row ≡ true) × (0 < used) × (rows_in after (used - 1) ≡ remove rows (place order rows row))
     dropped v left =
         let f = removal_accepted (by_key text order) xs entry at (removing (Some at) v) in
         let lt : at < length xs = subst (λ i. i < length xs) f.1 (place_lt (by_key text order) xs entry f.0) in

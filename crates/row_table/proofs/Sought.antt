@@ -1,6 +1,5 @@
 -- The rows in a table's cells, by what the ordered table answers of the cells. Assumes nothing.
-use Rattle.std.proofs.Common.{◌≡◌, ℕ, suc, ◌+◌, ◌<◌, ◌≤◌, min, Bool, true, false, cond, T, leb, List, [], ◌∷◌, map, length, get_or, take, Ok, Err, Result, sym, refl, ap, ◌∙◌, subst, add-one, arith}
-use Rattle.std.specs.Map.Invariant.{is-strictly-sorted-by}
+use Rattle.std.proofs.Common.{◌≡◌, ℕ, suc, ◌+◌, ◌<◌, ◌≤◌, Bool, true, false, cond, T, leb, List, [], ◌∷◌, map, length, get_or, take, Ok, Err, sym, refl, ap, ◌∙◌, subst, add-one, arith}
 use Rattle.std.proofs.lemmas.List.{length-map, length-take, take_all, get_or-map, get_or-take}
 use Rattle.std.proofs.lemmas.Bool.{le-leb}
 use Rattle.byte_strings.specs.declared.string.ByteString.{ByteString}

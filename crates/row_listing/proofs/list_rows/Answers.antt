@@ -20,8 +20,8 @@ loop-preserved g c = λ h.
     let n = length-map ps (λ (p : Bytes × Bytes). p.0) in
     let l : i < length ks = omega arith in
     let inv = c.loop.invariant h in
-    let m = listed_more ks (vec_items c.loop.rows) c.next-row-last.result i (next c.loop.mark (text c.loop.last) ks) h l inv.0 inv.1 c.next-row-last.ensures in (
-      ap (map text) c.in-ok-push.ensures.items ∙ m.0,
+    let m = listed_more ks (vec_items c.loop.rows) c.next_row-last.result i (next c.loop.mark (text c.loop.last) ks) h l inv.0 inv.1 c.next_row-last.ensures in (
+      ap (map text) c.in_ok-push.ensures.items ∙ m.0,
       ap (λ x. next Beyond x ks) m.1 ∙ next-key ks i (g.R.OrderedReading.ascending c.args.file.now) l,
     )
 

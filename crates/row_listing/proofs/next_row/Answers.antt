@@ -10,8 +10,8 @@ pub returns : goal.returns
 returns g c =
     let ks = keys (g.R.OrderedReading.pairs c.args.file.now) in
     let o = next c.args.mark (text c.args.from.now) ks in
-    let from = ap (λ x. next c.args.mark x ks) c.as-slice.ensures in
+    let from = ap (λ x. next c.args.mark x ks) c.as_slice.ensures in
     let len : c.min.result ≡ min (found o).1 66 = c.min.ensures ∙ ap (λ p. min p.1 66) (c.find-len.ensures.value ∙ ap found from) in
     let after : c.find-len.new.key ≡ filled o (replicate 66 0) = c.find-len.ensures.after ∙ ap (λ p. filled p (replicate 66 0)) from in
-    c.front-of.ensures
+    c.front_of.ensures
     ∙ (ap (λ b. take 66 (take (c.min.result - 0) b)) after ∙ cut_key o (replicate 66 0) c.min.result (length-replicate {A = ℕ} 66 0) len)

@@ -1,4 +1,3 @@
-use Rattle.std.proofs.Common.{sym}
 use Rattle.byte_strings.specs.Bytes.{order}
 use Rattle.ordered_table.specs.Table.{holds, place}
 use Rattle.ordered_table.proofs.Outcomes.{is_there, not_there}

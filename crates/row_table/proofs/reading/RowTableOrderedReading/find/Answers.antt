@@ -1,4 +1,4 @@
-use Rattle.std.proofs.Common.{◌≡◌, ◌<◌, ◌≤◌, [], length, get_or, Some, sym, ap, ◌∙◌, arith, rules}
+use Rattle.std.proofs.Common.{◌≡◌, ◌<◌, Some, sym, ap, ◌∙◌, arith, rules}
 use Rattle.byte_strings.specs.Bytes.{order}
 use Rattle.ordered_table.specs.Table.{holds, place}
 use Rattle.ordered_table.proofs.Outcomes.{is_there}
@@ -11,8 +11,8 @@ use Rattle.row_table.proofs.Sought.{length-rows, row_at, next_beyond, next_here,
 use Rattle.row_table.proofs.reading.RowTableOrderedReading.find.Goals as goal
 use Rattle.row_table.proofs.reading.RowTableOrderedReading.find.Goals.{in-Ok-Beyond, in-Ok-At, in-Err-default}
 
-pub overflow-add-at : goal.overflow-add-at
-overflow-add-at c =
+pub overflow_add-at : goal.overflow_add-at
+overflow_add-at c =
     let t = c.args.self.now in
     let string = c.args.from.now in
     let f = is_there (holds order (rows t) string) (place order (rows t) string) c.in-Ok-Beyond.at c.in-Ok-Beyond.ensures in
@@ -49,8 +49,8 @@ returns c =
     ] in
     let n = length-rows t.cells.now t.used t.within in
     let row = row_at t.cells.now t.used c.match-seek.at c.index-cells-at.result c.if-at-used.false t.within c.index-cells-at.is in
-    let some = find_some (rows t) c.args.from.now c.args.mark c.match-seek.at t.ascending at (omega arith) ∙ ap Some (row ∙ sym c.as-slice-row.ensures) in
+    let some = find_some (rows t) c.args.from.now c.args.mark c.match-seek.at t.ascending at (omega arith) ∙ ap Some (row ∙ sym c.as_slice-row.ensures) in
     record {
       value = sym (ap found some);
-      after = c.fill-front.ensures.after ∙ sym (ap (λ o. filled o c.args.key.now) some);
+      after = c.fill_front.ensures.after ∙ sym (ap (λ o. filled o c.args.key.now) some);
     }

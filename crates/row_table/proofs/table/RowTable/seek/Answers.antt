@@ -1,17 +1,17 @@
-use Rattle.std.proofs.Common.{◌≡◌, ◌+◌, ◌<◌, ◌≤◌, length, take, ◌∙◌, arith, rules}
+use Rattle.std.proofs.Common.{◌<◌, length, take, ◌∙◌, arith, rules}
 use Rattle.std.proofs.lemmas.List.{length-take}
-use Rattle.byte_strings.proofs.StringOrder.{string_order}
+use Rattle.byte_strings.specs.StringOrder.{string_order}
 use Rattle.row_table.proofs.Sought.{cells_ascend, sought_front, sought_row, long_found, long_missed}
 use Rattle.row_table.proofs.table.RowTable.seek.Goals as goal
 
-pub returns-then-string-le-LONGEST-ROW : goal.returns-then-string-le-LONGEST-ROW
-returns-then-string-le-LONGEST-ROW c =
+pub returns-then-string-le-LONGEST_ROW : goal.returns-then-string-le-LONGEST_ROW
+returns-then-string-le-LONGEST_ROW c =
     let s = c.args.self.now in
     c.search-place.ensures.value string_order (cells_ascend s.cells.now s.used s.ascending)
-    ∙ sought_row s.cells.now s.used c.args.string.now c.front-of.result c.front-of.ensures c.if-string-le-LONGEST-ROW.true
+    ∙ sought_row s.cells.now s.used c.args.string.now c.front_of.result c.front_of.ensures c.if-string-le-LONGEST_ROW.true
 
-pub overflow-add-result : goal.overflow-add-result
-overflow-add-result c =
+pub overflow_add-result : goal.overflow_add-result
+overflow_add-result c =
     let s = c.args.self.now in
     let b : c.in-Ok.at < length (take s.used s.cells.now) = c.in-Ok.ensures.bound in
     let n = length-take s.used s.cells.now in
@@ -21,13 +21,13 @@ overflow-add-result c =
 pub returns-in-Ok : goal.returns-in-Ok
 returns-in-Ok c =
     let s = c.args.self.now in
-    long_found s.cells.now s.used c.args.string.now c.if-string-le-LONGEST-ROW.false c.in-Ok.at s.ascending
+    long_found s.cells.now s.used c.args.string.now c.if-string-le-LONGEST_ROW.false c.in-Ok.at s.ascending
     (c.in-Ok.ensures.value string_order (cells_ascend s.cells.now s.used s.ascending)
-    ∙ sought_front s.cells.now s.used c.args.string.now c.front-of.result c.front-of.ensures)
+    ∙ sought_front s.cells.now s.used c.args.string.now c.front_of.result c.front_of.ensures)
 
 pub returns-in-Err : goal.returns-in-Err
 returns-in-Err c =
     let s = c.args.self.now in
-    long_missed s.cells.now s.used c.args.string.now c.if-string-le-LONGEST-ROW.false c.in-Err.at s.ascending
+    long_missed s.cells.now s.used c.args.string.now c.if-string-le-LONGEST_ROW.false c.in-Err.at s.ascending
     (c.in-Err.ensures.value string_order (cells_ascend s.cells.now s.used s.ascending)
-    ∙ sought_front s.cells.now s.used c.args.string.now c.front-of.result c.front-of.ensures)
+    ∙ sought_front s.cells.now s.used c.args.string.now c.front_of.result c.front_of.ensures)
