@@ -1,5 +1,5 @@
 -- From one key of an ascending list to the next. Assumes nothing.
-use Rattle.std.proofs.Common.{◌≡◌, ℕ, zero, suc, ◌+◌, ◌-◌, ◌<◌, ◌≤◌, min, Bool, true, false, cond, not, T, leb, List, [], ◌∷◌, ◌++◌, map, length, get_or, take, drop, Some, None, Option, unwrap_or, sym, refl, ap, ◌∙◌, le_of_suc-le-suc, not-suc-le-zero, add-one, arith}
+use Rattle.std.proofs.Common.{◌≡◌, ℕ, zero, suc, ◌+◌, ◌-◌, ◌<◌, min, true, cond, not, T, leb, List, [], ◌∷◌, ◌++◌, map, length, get_or, take, drop, Some, None, Option, unwrap_or, sym, refl, ap, ◌∙◌, le_of_suc-le-suc, not-suc-le-zero, add-one, arith}
 use Rattle.std.specs.List.{slice_get}
 use Rattle.std.proofs.lemmas.List.{length-take, take_all, take_at, take_more, take-take, map_push}
 use Rattle.std.proofs.lemmas.Option.{slice_get-get_or}
@@ -10,7 +10,6 @@ use Rattle.byte_strings.specs.Texts.{text}
 use Rattle.byte_strings.proofs.TotalOrder.{total_order, order-itself}
 use Rattle.ordered_table.proofs.Edits.{left, right, passes}
 use Rattle.ordered_table.proofs.Places.{found_at}
-use Rattle.storage.specs.declared.mark.PositionMark.{PositionMark}
 use Rattle.storage.specs.declared.mark.PositionMark.TheVariants.{At, Beyond}
 use Rattle.storage.specs.Pairs.{Ascending, next, short}
 use Rattle.storage.specs.Places.{next_place}
