@@ -16,12 +16,12 @@ loop-i-preserved c =
     (λ k h. let other : k ≢ i = omega arith in ap (λ ns. get_or ns k 0) e ∙ (get_or-set_other (links slots) i k (i + 1) 0 other ∙ c.loop-i.invariant k h))
     (ap (λ ns. get_or ns i 0) e ∙ get_or-set_same (links slots) i (i + 1) 0 within)
 
-pub invariant-of-result : goal.invariant-of-result
+pub invariant_of-result : goal.invariant_of-result
 unfolding walk
-invariant-of-result c =
+invariant_of-result c =
     let slots = c.loop-i.slots in
-    (zero-le, (all_once (links slots) (length slots) (λ k h. c.loop-i.invariant k (omega arith)), (tt, tt)))
+    record { within = zero-le; whole = all_once (links slots) (length slots) (λ k h. c.loop-i.invariant k (omega arith)); ascending = tt }
 
 pub returns : goal.returns
 unfolding walk
-returns c = record { rows = refl; limit = c.loop-i.auto.slots ∙ ap length c.into-cells-slots.ensures }
+returns c = record { rows = refl; limit = c.loop-i.auto.slots ∙ ap length c.into_cells-slots.ensures }

@@ -9,8 +9,8 @@ bounds-slots-seat c =
     let seat = c.loop-seat.seat in
     at_within self.linked self.whole seat.index seat.at c.loop-seat.invariant.at c.loop-seat-test.true
 
-pub offset-bounds-slots-seat : goal.offset-bounds-slots-seat
-offset-bounds-slots-seat c = let l = bounds-slots-seat c in search rules
+pub offset_bounds-slots-seat : goal.offset_bounds-slots-seat
+offset_bounds-slots-seat c = let l = bounds-slots-seat c in search rules
 
 pub loop-seat-preserved : goal.loop-seat-preserved
 loop-seat-preserved c =
@@ -20,7 +20,7 @@ loop-seat-preserved c =
     let here = c.loop-seat.invariant in
     let l = c.loop-seat-test.true in
     let slot = c.index-slots-seat.result in
-    let less = order-at self.linked row seat here self.whole l slot c.index-slots-seat.is c.as-slice.result.now Less c.as-slice.ensures c.in-Less.ensures.value in
+    let less = order-at self.linked row seat here self.whole l slot c.index-slots-seat.is c.as_slice.result.now Less c.as_slice.ensures c.in-Less.ensures.value in
     subst (Reached self.linked row) (sym c.behind-seat.ensures) (reached_on self.linked row seat here self.whole l slot c.index-slots-seat.is less)
 
 pub returns-in-Equal : goal.returns-in-Equal
@@ -30,7 +30,7 @@ returns-in-Equal c =
     let seat = c.loop-seat.seat in
     let here = c.loop-seat.invariant in
     let l = c.loop-seat-test.true in
-    let equal = order-at self.linked row seat here self.whole l c.index-slots-seat.result c.index-slots-seat.is c.as-slice.result.now Equal c.as-slice.ensures c.in-Equal.ensures.value in
+    let equal = order-at self.linked row seat here self.whole l c.index-slots-seat.result c.index-slots-seat.is c.as_slice.result.now Equal c.as_slice.ensures c.in-Equal.ensures.value in
     seated_equal self.linked row seat here self.ascending l equal
 
 pub returns-in-Greater : goal.returns-in-Greater
@@ -40,7 +40,7 @@ returns-in-Greater c =
     let seat = c.loop-seat.seat in
     let here = c.loop-seat.invariant in
     let l = c.loop-seat-test.true in
-    let greater = order-at self.linked row seat here self.whole l c.index-slots-seat.result c.index-slots-seat.is c.as-slice.result.now Greater c.as-slice.ensures c.in-Greater.ensures.value in
+    let greater = order-at self.linked row seat here self.whole l c.index-slots-seat.result c.index-slots-seat.is c.as_slice.result.now Greater c.as_slice.ensures c.in-Greater.ensures.value in
     seated_greater self.linked row seat here self.ascending greater
 
 pub returns : goal.returns

@@ -13,8 +13,8 @@ use Rattle.row_chain.proofs.chain.RowChain.seek_next.Goals as goal
 passed : (mark : PositionMark) (there : Bool) (i p : ℕ) → mark ≡ Beyond → there ≡ true → i ≡ p → i + 1 ≡ next_place mark there p
 passed mark there i p beyond held e = add-one i ∙ (λ t. next_place (sym beyond t) (sym held t) (e t))
 
-pub overflow-add-result : goal.overflow-add-result
-overflow-add-result c =
+pub overflow_add-result : goal.overflow_add-result
+overflow_add-result c =
     let self = c.args.self.now in
     let seated = c.seek-seat.ensures in
     let l = index_lt self.linked c.args.from.now c.seek-seat.result self.whole seated (sym seated.found ∙ c.if-seat.true) in
@@ -27,8 +27,8 @@ bounds-slots-seat c =
     let seated = c.seek-seat.ensures in
     seat_within self.linked c.args.from.now c.seek-seat.result self.whole seated (sym seated.found ∙ c.if-seat.true)
 
-pub offset-bounds-slots-seat : goal.offset-bounds-slots-seat
-offset-bounds-slots-seat c = let l = bounds-slots-seat c in search rules
+pub offset_bounds-slots-seat : goal.offset_bounds-slots-seat
+offset_bounds-slots-seat c = let l = bounds-slots-seat c in search rules
 
 pub bounds-slots-seat-in-Beyond : goal.bounds-slots-seat-in-Beyond
 bounds-slots-seat-in-Beyond c = bounds-slots-seat c

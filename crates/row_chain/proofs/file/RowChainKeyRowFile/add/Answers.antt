@@ -16,7 +16,7 @@ pub returns-then-seat : goal.returns-then-seat
 returns-then-seat c =
     let chain = c.args.self.now.linked in
     let row = c.args.row.now in
-    let legal = (row_passed row tt c.in-ok-check-row.ensures).0 in
+    let legal = (row_passed row tt c.in_ok-check_row.ensures).0 in
     let held = sym {b = holds order (rows chain) row} c.seek-seat.ensures.found ∙ c.if-seat.true in
     record {
       value = sym (add_present (rows chain) row (length chain.slots.now) legal held);
@@ -28,7 +28,7 @@ pub returns-then-self : goal.returns-then-self
 returns-then-self c =
     let chain = c.args.self.now.linked in
     let row = c.args.row.now in
-    let legal = (row_passed row tt c.in-ok-check-row.ensures).0 in
+    let legal = (row_passed row tt c.in_ok-check_row.ensures).0 in
     let absent = sym {b = holds order (rows chain) row} c.seek-seat.ensures.found ∙ c.if-seat.false in
     let full : length chain.slots.now ≤ length (rows chain) = let n = length-rows chain in omega arith in
     record {
@@ -50,19 +50,19 @@ splice-requires c =
       before = before_within self.linked self.whole seat.index seat.before seated.before (index_le self.linked row seat self.whole room seated);
     }
 
-pub invariant-of-self : goal.invariant-of-self
-invariant-of-self c =
+pub invariant_of-self : goal.invariant_of-self
+invariant_of-self c =
     let self = c.args.self.now in
     let chain = self.linked in
     let row = c.args.row.now in
     let seated = c.seek-seat.ensures in
     let after = c.splice.new.self in
-    let whole_row = c.front-of.ensures ∙ take_all 66 row (row_passed row tt c.in-ok-check-row.ensures).1 in
+    let whole_row = c.front_of.ensures ∙ take_all 66 row (row_passed row tt c.in_ok-check_row.ensures).1 in
     let spliced = subst (λ bytes. Spliced chain c.seek-seat.result bytes after) whole_row c.splice.ensures in
     let new = spliced_in chain row c.seek-seat.result self.whole c.if-self.false seated after spliced in
     let absent = sym seated.found ∙ c.if-seat.false in
     let within : after.count ≤ length after.slots.now = let n = new.0 in let e = spliced.count_after in omega arith in
-    (within, (new.1, (subst (Ascending order) (sym new.2) (ascending_put total_order (rows chain) row self.ascending absent), tt)))
+    record { within = within; whole = new.1; ascending = subst (Ascending order) (sym new.2) (ascending_put total_order (rows chain) row self.ascending absent) }
 
 pub returns : goal.returns
 returns c =
@@ -71,8 +71,8 @@ returns c =
     let row = c.args.row.now in
     let seated = c.seek-seat.ensures in
     let after = c.splice.new.self in
-    let legal = row_passed row tt c.in-ok-check-row.ensures in
-    let spliced = subst (λ bytes. Spliced chain c.seek-seat.result bytes after) (c.front-of.ensures ∙ take_all 66 row legal.1) c.splice.ensures in
+    let legal = row_passed row tt c.in_ok-check_row.ensures in
+    let spliced = subst (λ bytes. Spliced chain c.seek-seat.result bytes after) (c.front_of.ensures ∙ take_all 66 row legal.1) c.splice.ensures in
     let new = spliced_in chain row c.seek-seat.result self.whole c.if-self.false seated after spliced in
     let absent = sym seated.found ∙ c.if-seat.false in
     let room : length (rows chain) < length chain.slots.now = let n = length-rows chain in omega arith in

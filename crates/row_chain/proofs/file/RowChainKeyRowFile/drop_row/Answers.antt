@@ -29,8 +29,8 @@ unlink-requires c =
       before = before_within self.linked self.whole seat.index seat.before seated.before (omega arith);
     }
 
-pub invariant-of-self : goal.invariant-of-self
-invariant-of-self c =
+pub invariant_of-self : goal.invariant_of-self
+invariant_of-self c =
     let self = c.args.self.now in
     let chain = self.linked in
     let row = c.args.row.now in
@@ -39,7 +39,7 @@ invariant-of-self c =
     let held = sym seated.found ∙ not-false c.seek-seat.result.found c.if-not-seat.false in
     let new = taken_out chain row c.seek-seat.result self.whole seated held self.within after c.unlink.ensures in
     let within : after.count ≤ length after.slots.now = let n = new.0 in let e = c.unlink.ensures.count_after in let w = self.within in omega arith in
-    (within, (new.1, (subst (Ascending order) (sym new.2) (ascending_cut order (rows chain) (place order (rows chain) row) self.ascending), tt)))
+    record { within = within; whole = new.1; ascending = subst (Ascending order) (sym new.2) (ascending_cut order (rows chain) (place order (rows chain) row) self.ascending) }
 
 pub returns : goal.returns
 returns c =
