@@ -2,7 +2,7 @@
 use Rattle.std.proofs.Common.{◌≡◌, Bool, true, false, cond, T, ◌⊎◌, List, [], ◌∷◌, is_some, Some, None, filter, Option, sym, refl, ap, ◌∙◌, subst, inl, inr, true≢false}
 use Rattle.std.specs.Ordering.{is_lt}
 use Rattle.std.specs.List.{AllByRecursion as All}
-use Rattle.std.specs.Map.Invariant.{is-strictly-sorted-by}
+use Rattle.ordered_table.specs.Table.{is_strictly_sorted_by}
 use Rattle.byte_strings.specs.Bytes.{Bytes, order, below, same}
 use Rattle.byte_strings.proofs.TotalOrder.{total_order, same_is, is_same, below_not_same, less_below}
 use Rattle.ordered_table.proofs.Edits.{left, right, is_less, beyond}
@@ -54,8 +54,8 @@ unfolding under
 under-from-in p [] h i = absurd i
 under-from-in p (q ∷ ps) h (inl e) = rw (is_same q.0 p.0 (ap (λ z. z.0) e)) (ap (λ z. Some z.1) e)
 under-from-in p (q ∷ ps) h (inr i) =
-    let up = above_first q.0 p ps (left (beyond total_order q.0 (keys ps)) (is-strictly-sorted-by order (keys ps)) h) i in
-    rw (below_not_same q.0 p.0 up) (under-from-in p ps (right (beyond total_order q.0 (keys ps)) (is-strictly-sorted-by order (keys ps)) h) i)
+    let up = above_first q.0 p ps (left (beyond total_order q.0 (keys ps)) (is_strictly_sorted_by order (keys ps)) h) i in
+    rw (below_not_same q.0 p.0 up) (under-from-in p ps (right (beyond total_order q.0 (keys ps)) (is_strictly_sorted_by order (keys ps)) h) i)
 
 -- ---- what a filter keeps
 

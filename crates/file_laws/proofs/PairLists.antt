@@ -3,7 +3,7 @@
 use Rattle.std.proofs.Common.{◌≡◌, ℕ, ◌≤◌, Bool, true, false, cond, T, eqb, List, [], ◌∷◌, length, Some, arith}
 use Rattle.std.specs.Ordering.{is_lt}
 use Rattle.std.specs.List.{AllByRecursion as All}
-use Rattle.std.specs.Map.Invariant.{is-strictly-sorted-by}
+use Rattle.ordered_table.specs.Table.{is_strictly_sorted_by}
 use Rattle.std.proofs.lemmas.Bool.Decides.{nat_tests}
 use Rattle.byte_strings.specs.Bytes.{Bytes, order}
 use Rattle.byte_strings.proofs.TotalOrder.{total_order}
@@ -69,13 +69,13 @@ module _ (n : ℕ) where
   pub ascending_others : (ps : List (Bytes × ℕ)) → Ascending (keys ps) → Ascending (keys (others_locks n ps))
   unfolding others_locks
   ascending_others [] h = h
-  ascending_others (p ∷ ps) h = go (eqb p.1 n) (ascending_others ps (right (beyond total_order p.0 (keys ps)) (is-strictly-sorted-by order (keys ps)) h))
+  ascending_others (p ∷ ps) h = go (eqb p.1 n) (ascending_others ps (right (beyond total_order p.0 (keys ps)) (is_strictly_sorted_by order (keys ps)) h))
     where
       go : (b : Bool) → Ascending (keys (others_locks n ps)) → Ascending (keys (cond b (others_locks n ps) (p ∷ others_locks n ps)))
       go true i = i
       go false i =
-          both (beyond total_order p.0 (keys (others_locks n ps))) (is-strictly-sorted-by order (keys (others_locks n ps)))
-          (beyond_others p.0 ps (left (beyond total_order p.0 (keys ps)) (is-strictly-sorted-by order (keys ps)) h)) i
+          both (beyond total_order p.0 (keys (others_locks n ps))) (is_strictly_sorted_by order (keys (others_locks n ps)))
+          (beyond_others p.0 ps (left (beyond total_order p.0 (keys ps)) (is_strictly_sorted_by order (keys ps)) h)) i
 
 -- the locks that another's release leaves
 pub under-others : (κ : Bytes) (n m : ℕ) (ps : List (Bytes × ℕ)) → (m ≡ n → ⊥) → under κ ps ≡ Some n → under κ (others_locks m ps) ≡ Some n

@@ -1,7 +1,6 @@
 -- The law of runs. Assumes nothing.
 use Rattle.std.proofs.Common.{◌≡◌, ℕ, zero, suc, ◌-◌, Bool, true, false, cond, ◌⊎◌, List, [], ◌∷◌, ◌++◌, length, drop, Some, None, Option, Less, sym, refl, ap, ◌∙◌, subst, inl, inr, true≢false, arith}
 use Rattle.std.proofs.ByRecursion.{All-weaker}
-use Rattle.std.proofs.lemmas.Map.Invariant.{test-from-sorted}
 use Rattle.std.proofs.lemmas.List.{length-append, drop_at}
 use Rattle.std.proofs.lemmas.Bool.{both_ways, or_cases}
 use Rattle.std.specs.Option.{option_map}
@@ -28,6 +27,7 @@ use Rattle.file_laws.proofs.Deliveries.{read_of}
 use Rattle.file_laws.proofs.Events.{numbered-same, own_is, accepted, accepted_step, saw_parts, keeps, ended}
 use Rattle.file_laws.proofs.Members.{In, some_same, never_some, all_in, in_from_under}
 use Rattle.file_laws.proofs.Refusals.{clear, is_open}
+use Rattle.file_laws.proofs.Sorting.{test_from_sorted}
 use Rattle.file_laws.proofs.Soundness.{stays_sound}
 use Rattle.file_laws.proofs.Subsets.{Low, in_subset, subset_in, lowest_low, lowest_none, within_back, within-next}
 
@@ -224,7 +224,7 @@ run_holds : (d : Description) (n : ℕ) (o : Entry) (s : PlainFile) (cs : List C
 run_holds d n o s cs g at r =
     let h = core d n cs s g o at r in
     record {
-      ascending = test-from-sorted order (strings_read n (trace d s cs)) h.ascending;
+      ascending = test_from_sorted (strings_read n (trace d s cs)) h.ascending;
       along = h.along;
       whole = λ t κ x w p a. by_records d o n κ x cs s g p a h.along ∙ h.whole t κ x w p a;
     }

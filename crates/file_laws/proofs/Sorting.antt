@@ -1,12 +1,14 @@
 -- What a list of byte strings has: sorting keeps it, and an ascending list is told by it. Assumes nothing.
-use Rattle.std.proofs.Common.{◌≡◌, Bool, true, false, cond, ◌||◌, ◌⊎◌, List, [], ◌∷◌, ◌++◌, Less, sym, refl, ap, ◌∙◌, subst, inl, inr, ⊎_elim, true≢false, arith}
+use Rattle.std.proofs.Common.{◌≡◌, Bool, true, false, cond, ◌||◌, T, ◌⊎◌, List, [], ◌∷◌, ◌++◌, Less, sym, refl, ap, ◌∙◌, subst, inl, inr, ⊎_elim, true≢false, arith}
+use Rattle.std.specs.Ordering.{is_lt}
 use Rattle.std.specs.List.Sorted.{IsStrictlySortedBy}
-use Rattle.std.specs.List.{AllByRecursion as All}
+use Rattle.std.specs.List.{AllByRecursion as All, list_all}
 use Rattle.std.proofs.ByRecursion.{All-weaker}
-use Rattle.std.proofs.lemmas.Map.Invariant.{sorted-from-test, test-from-sorted}
 use Rattle.std.proofs.lemmas.Bool.{or_cases}
 use Rattle.byte_strings.specs.Bytes.{Bytes, order, below, same}
 use Rattle.byte_strings.proofs.TotalOrder.{same_is, is_same, same-flip, order_trans, below_less, less_below, below_neither, below_not_same}
+use Rattle.ordered_table.specs.Table.{is_strictly_sorted_by}
+use Rattle.ordered_table.proofs.Edits.{both, left, right, is_less, less_test}
 use Rattle.storage.specs.Laws.{has}
 use Rattle.storage.specs.Pairs.{Ascending}
 use Rattle.file_rules.specs.Paths.{sorted_in, sorted}
@@ -32,6 +34,33 @@ has-sorted x [] = refl
 has-sorted x (y ∷ xs) = has-sorted_in x y (sorted xs) ∙ ap (λ b. same y x || b) (has-sorted x xs)
 
 -- ---- ascending
+
+-- as a test and as a fact
+before_test : (x : Bytes) (ys : List Bytes) → All (λ y. order x y ≡ Less) ys → T (list_all (λ y. is_lt (order x y)) ys)
+before_test x [] a = tt
+before_test x (y ∷ ys) a =
+    both (is_lt (order x y)) (list_all (λ z. is_lt (order x z)) ys) (less_test (order x y) a.0) (before_test x ys a.1)
+
+before_fact : (x : Bytes) (ys : List Bytes) → T (list_all (λ y. is_lt (order x y)) ys) → All (λ y. order x y ≡ Less) ys
+before_fact x [] t = tt
+before_fact x (y ∷ ys) t = (
+  is_less (order x y) (left (is_lt (order x y)) (list_all (λ z. is_lt (order x z)) ys) t),
+  before_fact x ys (right (is_lt (order x y)) (list_all (λ z. is_lt (order x z)) ys) t),
+)
+
+pub test_from_sorted : (xs : List Bytes) → IsStrictlySortedBy order xs → Ascending xs
+unfolding IsStrictlySortedBy
+test_from_sorted [] s = tt
+test_from_sorted (x ∷ xs) s =
+    both (list_all (λ y. is_lt (order x y)) xs) (is_strictly_sorted_by order xs) (before_test x xs s.0) (test_from_sorted xs s.1)
+
+pub sorted_from_test : (xs : List Bytes) → Ascending xs → IsStrictlySortedBy order xs
+unfolding IsStrictlySortedBy
+sorted_from_test [] t = tt
+sorted_from_test (x ∷ xs) t = (
+  before_fact x xs (left (list_all (λ y. is_lt (order x y)) xs) (is_strictly_sorted_by order xs) t),
+  sorted_from_test xs (right (list_all (λ y. is_lt (order x y)) xs) (is_strictly_sorted_by order xs) t),
+)
 
 -- x comes before all of them
 abbrev Before : Bytes → List Bytes → Type 0
@@ -60,7 +89,7 @@ sorted_sorted [] = tt
 sorted_sorted (x ∷ xs) = sorted_in_sorted x (sorted xs) (sorted_sorted xs)
 
 pub sorted_ascends : (xs : List Bytes) → Ascending (sorted xs)
-sorted_ascends xs = test-from-sorted order (sorted xs) (sorted_sorted xs)
+sorted_ascends xs = test_from_sorted (sorted xs) (sorted_sorted xs)
 
 -- ---- told by what it has
 
@@ -101,4 +130,4 @@ same_lists (x ∷ xs) (y ∷ ys) s t h =
 
 -- two ascending lists that have the same are one
 pub only_one : (rows others : List Bytes) → Ascending rows → Ascending others → ((x : Bytes) → has x rows ≡ has x others) → rows ≡ others
-only_one rows others a b h = same_lists rows others (sorted-from-test order rows a) (sorted-from-test order others b) h
+only_one rows others a b h = same_lists rows others (sorted_from_test rows a) (sorted_from_test others b) h

@@ -1,6 +1,8 @@
 // Laws of the plain file. A file that answers as the plain file does has them too.
 //
 // Each function's contract is one law, by a statement of specs/; it has nothing to compute.
+#![tactic(auto)]
+
 ghost use Rattle.file_rules.specs.Descriptions.{Description};
 ghost use Rattle.file_laws.specs.Builds.{BuildLaw};
 ghost use Rattle.file_laws.specs.Examples.{Examples};

@@ -1,7 +1,6 @@
 -- The bounds that a description keeps.
 use Rattle.std.specs.Prelude.{ℕ, Bool, true, not, ◌&&◌, List, [], ◌∷◌, length, nat_le}
 use Rattle.std.specs.List.{list_all}
-use Rattle.std.specs.Map.Invariant.{is-distinct}
 use Rattle.byte_strings.specs.Bytes.{same}
 use Rattle.file_rules.specs.declared.description.KeyField.{KeyField}
 use Rattle.file_rules.specs.declared.description.AlternateKey.{AlternateKey}
@@ -27,8 +26,10 @@ key_fits longest (KeySequenced f) = field_fits longest f
 abbrev pub alternate_fits : ℕ → AlternateKey → Bool
 alternate_fits longest k = not (same k.specifier (0 ∷ 0 ∷ [])) && nat_le k.field.offset 254 && field_fits longest k.field
 
+-- no two have the same specifier
 abbrev pub specifiers_differ : List AlternateKey → Bool
-specifiers_differ ks = is-distinct (λ j k. same j.specifier k.specifier) ks
+specifiers_differ [] = true
+specifiers_differ (j ∷ ks) = list_all (λ k. not (same j.specifier k.specifier)) ks && specifiers_differ ks
 
 -- at most four
 abbrev pub table_fits : ℕ → List AlternateKey → Bool

@@ -1,7 +1,7 @@
 // Why a call is refused: a number, the layer that it belongs to and a key.
 ghost use Rattle.std.specs.Prelude.{◌≡◌};
 ghost use Rattle.file_rules.specs.Faults.{number_of, layer_of, key_of};
-ghost use Rattle.file_rules.specs.declared.fault.CallFault.TheVariants.{Primary as primary-fault, Rows as row_fault};
+ghost use Rattle.file_rules.specs.declared.fault.CallFault.TheVariants.{Primary as primary_fault, Rows as row_fault};
 ghost use Rattle.storage.specs.declared.faults.PrimaryFault.TheVariants.{NotFound as not_found};
 
 use storage::{Absent, PrimaryFault, RowFault};
@@ -78,7 +78,7 @@ impl CallFault {
 }
 
 impl From<PrimaryFault> for CallFault {
-    ghost from_gives = { λ x y. y ≡ primary-fault x };
+    ghost from_gives = { λ x y. y ≡ primary_fault x };
 
     fn from(fault: PrimaryFault) -> CallFault {
         CallFault::Primary(fault)
@@ -95,7 +95,7 @@ impl From<RowFault> for CallFault {
 
 // Nothing under a key of the primary file.
 impl From<Absent> for CallFault {
-    ghost from_gives = { λ _ y. y ≡ primary-fault not_found };
+    ghost from_gives = { λ _ y. y ≡ primary_fault not_found };
 
     fn from(_fault: Absent) -> CallFault {
         CallFault::Primary(PrimaryFault::NotFound)

@@ -1,5 +1,7 @@
 // The rules of the record manager: how a file is described, which codes a call may name and what a refusal is told
 // by. In specs/ stands the plain file, which answers every call from its records alone.
+#![tactic(auto)]
+
 mod bounds;
 mod description;
 mod fault;

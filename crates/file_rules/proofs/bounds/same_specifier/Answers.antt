@@ -1,8 +1,7 @@
-use Rattle.std.proofs.lemmas.Slice.Eq.{slice_eq-Decides, bytes_eq-Decides}
-use Rattle.std.proofs.lemmas.Bool.Decides.{same_from_decides, Decides-eqb}
+use Rattle.std.proofs.Common.{rules}
 use Rattle.byte_strings.specs.Bytes.{same}
 use Rattle.file_rules.proofs.bounds.same_specifier.Goals as goal
 
 pub returns : goal.returns
 unfolding same
-returns c = same_from_decides _ _ (slice_eq-Decides Decides-eqb _ _ _ c.eq.ensures) (bytes_eq-Decides _ _)
+returns c = search rules
