@@ -1,5 +1,5 @@
 -- What the table took in it gives back where the chain refuses: that is never refused, and leaves it as it was.
-use Rattle.std.proofs.Common.{◌≡◌, ℕ, [], Ok, Err, sym, ap, ◌∙◌, arith}
+use Rattle.std.proofs.Common.{◌≡◌, ℕ, sym, ◌∙◌, arith}
 use Rattle.storage.specs.Checks.{first, settled}
 use Rattle.storage.specs.Pairs.{without}
 use Rattle.storage.specs.Rows.{drop_checks}
