@@ -1,6 +1,6 @@
 -- The fresh key build is what it says, and a record that comes, goes or changes alters it by its own rows. Assumes nothing.
 use Rattle.std.proofs.Common.{◌≡◌, ◌-◌, Bool, true, false, not, ◌&&◌, ◌||◌, ◌⊎◌, List, [], length, drop, is_some, Some, None, Option, sym, refl, ap, ◌∙◌, inl, inr, ⊎_elim, true≢false, arith}
-use Rattle.std.specs.List.{AllByRecursion as All}
+use Rattle.std.specs.List.{AllByRecursion}
 use Rattle.byte_strings.specs.Bytes.{Bytes, same}
 use Rattle.byte_strings.proofs.TotalOrder.{is_same, same_cases}
 use Rattle.storage.specs.Laws.{has}
@@ -66,7 +66,7 @@ module _ (ks : List AlternateKey) (κ x : Bytes) where
           (λ j. has x (rows_under ks (s j) (i j))) ∙ w.one_of_its
 
   -- and the record elsewhere has a key as long as κ, so that its rows are no rows under κ
-  elsewhere : (o : Option Bytes) (ps : List (Bytes × Bytes)) → All (λ p. length p.0 ≡ length κ) ps → (w : OfRecord ks ps x) → same κ w.key ≡ false → has x (rows_under ks κ o) ≡ false
+  elsewhere : (o : Option Bytes) (ps : List (Bytes × Bytes)) → AllByRecursion (λ p. length p.0 ≡ length κ) ps → (w : OfRecord ks ps x) → same κ w.key ≡ false → has x (rows_under ks κ o) ≡ false
   elsewhere o ps long w other = go (has x (rows_under ks κ o)) refl
     where
       as_long : length w.key ≡ length κ

@@ -3,7 +3,7 @@ use Rattle.std.proofs.Common.{◌≡◌, ℕ, zero, suc, ◌+◌, ◌-◌, ◌�
 use Rattle.std.proofs.lemmas.List.{length-take, length-drop, length-append}
 use Rattle.std.proofs.lemmas.Bool.{or_parts, eqb-true, ltb-false, not-false}
 use Rattle.std.specs.Option.{option_map}
-use Rattle.std.specs.List.{AllByRecursion as All}
+use Rattle.std.specs.List.{AllByRecursion}
 use Rattle.byte_strings.specs.Bytes.{Bytes, same}
 use Rattle.storage.specs.Primary.{is_relative, number_key}
 use Rattle.file_rules.specs.declared.description.AlternateKey.{AlternateKey}
@@ -25,12 +25,12 @@ use Rattle.file_laws.proofs.Members.{never_some, some_same}
 
 -- ---- entries
 
-pub entry_fits : (d : Description) (es : List (Option Entry)) (n : ℕ) (o : Entry) → All (IfAny (EntryFits d)) es → numbered es n ≡ Some o → EntryFits d o
+pub entry_fits : (d : Description) (es : List (Option Entry)) (n : ℕ) (o : Entry) → AllByRecursion (IfAny (EntryFits d)) es → numbered es n ≡ Some o → EntryFits d o
 unfolding numbered
 entry_fits d es zero o h e = absurd (never_some o e)
 entry_fits d es (suc n) o h e = at es n h e
   where
-    at : (es : List (Option Entry)) (n : ℕ) → All (IfAny (EntryFits d)) es → get_or es n None ≡ Some o → EntryFits d o
+    at : (es : List (Option Entry)) (n : ℕ) → AllByRecursion (IfAny (EntryFits d)) es → get_or es n None ≡ Some o → EntryFits d o
     at [] zero h e = absurd (never_some o e)
     at [] (suc n) h e = absurd (never_some o e)
     at (x ∷ es) zero h e = subst (IfAny (EntryFits d)) e h.0

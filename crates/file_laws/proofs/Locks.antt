@@ -3,7 +3,7 @@ use Rattle.std.proofs.Common.{◌≡◌, ℕ, Bool, true, false, cond, ◌&&◌,
 use Rattle.std.proofs.lemmas.Bool.{both_ways, and_parts, eqb-true, not-false}
 use Rattle.std.proofs.lemmas.Bool.Decides.{nat_tests}
 use Rattle.std.specs.Option.{option_map}
-use Rattle.std.specs.List.{AllByRecursion as All}
+use Rattle.std.specs.List.{AllByRecursion}
 use Rattle.byte_strings.specs.Bytes.{Bytes, same}
 use Rattle.byte_strings.proofs.TotalOrder.{same_cases, is_same}
 use Rattle.storage.specs.Pairs.{under, placed, replaced, without}
@@ -194,7 +194,7 @@ lock_held d s n κ c z h =
 
 -- ---- the induction
 
-all_spared : (d : Description) (n : ℕ) (κ : Bytes) (cs : List Call) (s : PlainFile) → under κ s.record_locks ≡ Some n → All (λ e. releases n κ e ≡ false) (trace d s cs) → All (λ e. (number e.call ≡ n → ⊥) → Spared d κ e) (trace d s cs)
+all_spared : (d : Description) (n : ℕ) (κ : Bytes) (cs : List Call) (s : PlainFile) → under κ s.record_locks ≡ Some n → AllByRecursion (λ e. releases n κ e ≡ false) (trace d s cs) → AllByRecursion (λ e. (number e.call ≡ n → ⊥) → Spared d κ e) (trace d s cs)
 unfolding trace
 all_spared d n κ [] s h a = tt
 all_spared d n κ (c ∷ cs) s h a = (spared d s c n κ h, all_spared d n κ cs (step d s c).0 (stays d s c n κ h a.0) a.1)
@@ -203,4 +203,4 @@ pub lock_law : (d : Description) (s : PlainFile) (cs : List Call) → Sound d s 
 lock_law d s cs g n κ front held back k e z h a =
     let p = cut_at d s cs front held back k g e in
     let q : under κ k.after.record_locks ≡ Some n = subst (λ (v : Event). locks n v ≡ true → (own v.before n).current ≡ Some κ → under κ v.after.record_locks ≡ Some n) (sym p.is_step) (lock_held d p.from n κ k.call) z h in
-    subst (λ es. All (λ e. releases n κ e ≡ false) es → All (λ e. (number e.call ≡ n → ⊥) → Spared d κ e) es) (sym p.is_trace) (all_spared d n κ p.calls k.after q) a
+    subst (λ es. AllByRecursion (λ e. releases n κ e ≡ false) es → AllByRecursion (λ e. (number e.call ≡ n → ⊥) → Spared d κ e) es) (sym p.is_trace) (all_spared d n κ p.calls k.after q) a

@@ -1,7 +1,7 @@
 -- Members of a list: pairs and what stands under their keys, and what a filter keeps. Assumes nothing.
 use Rattle.std.proofs.Common.{◌≡◌, Bool, true, false, cond, T, ◌⊎◌, List, [], ◌∷◌, is_some, Some, None, filter, Option, sym, refl, ap, ◌∙◌, subst, inl, inr, true≢false}
 use Rattle.std.specs.Ordering.{is_lt}
-use Rattle.std.specs.List.{AllByRecursion as All}
+use Rattle.std.specs.List.{AllByRecursion}
 use Rattle.ordered_table.specs.Table.{is_strictly_sorted_by}
 use Rattle.byte_strings.specs.Bytes.{Bytes, order, below, same}
 use Rattle.byte_strings.proofs.TotalOrder.{total_order, same_is, is_same, below_not_same, less_below}
@@ -26,7 +26,7 @@ pub none_of : {A : Type 0} (o : Option A) → is_some o ≡ false → o ≡ None
 none_of None h = refl
 none_of (Some x) h = absurd (true≢false h)
 
-pub all_in : {A : Type 0} (P : A → Type 0) (x : A) (l : List A) → All P l → In x l → P x
+pub all_in : {A : Type 0} (P : A → Type 0) (x : A) (l : List A) → AllByRecursion P l → In x l → P x
 all_in P x [] h i = absurd i
 all_in P x (y ∷ ys) h (inl e) = subst P e h.0
 all_in P x (y ∷ ys) h (inr i) = all_in P x ys h.1 i

@@ -2,7 +2,7 @@
 -- nothing.
 use Rattle.std.proofs.Common.{◌≡◌, ℕ, ◌≤◌, Bool, true, false, cond, T, eqb, List, [], ◌∷◌, length, Some, arith}
 use Rattle.std.specs.Ordering.{is_lt}
-use Rattle.std.specs.List.{AllByRecursion as All}
+use Rattle.std.specs.List.{AllByRecursion}
 use Rattle.ordered_table.specs.Table.{is_strictly_sorted_by}
 use Rattle.std.proofs.lemmas.Bool.Decides.{nat_tests}
 use Rattle.byte_strings.specs.Bytes.{Bytes, order}
@@ -12,17 +12,17 @@ use Rattle.storage.specs.Pairs.{Ascending, keys, total, under, placed, replaced,
 use Rattle.file_rules.specs.Steps.{others_locks}
 
 module _ {A : Type 0} (κ : Bytes) (P : Bytes × A → Type 0) where
-  pub all_placed : (a : A) (ps : List (Bytes × A)) → P (κ, a) → All P ps → All P (placed κ a ps)
+  pub all_placed : (a : A) (ps : List (Bytes × A)) → P (κ, a) → AllByRecursion P ps → AllByRecursion P (placed κ a ps)
   unfolding placed
   all_placed a [] h k = (h, tt)
   all_placed a (p ∷ ps) h k = let i = all_placed a ps h k.1 in grind arith
 
-  pub all_replaced : (a : A) (ps : List (Bytes × A)) → P (κ, a) → All P ps → All P (replaced κ a ps)
+  pub all_replaced : (a : A) (ps : List (Bytes × A)) → P (κ, a) → AllByRecursion P ps → AllByRecursion P (replaced κ a ps)
   unfolding replaced
   all_replaced a [] h k = tt
   all_replaced a (p ∷ ps) h k = let i = all_replaced a ps h k.1 in grind arith
 
-  pub all_without : (ps : List (Bytes × A)) → All P ps → All P (without κ ps)
+  pub all_without : (ps : List (Bytes × A)) → AllByRecursion P ps → AllByRecursion P (without κ ps)
   unfolding without
   all_without [] k = tt
   all_without (p ∷ ps) k = let i = all_without ps k.1 in grind arith
@@ -41,7 +41,7 @@ total_without κ (p ∷ ps) = let h = total_without κ ps in grind arith
 -- ---- the locks of others
 
 module _ (n : ℕ) where
-  pub all_others : (P : Bytes × ℕ → Type 0) (ps : List (Bytes × ℕ)) → All P ps → All P (others_locks n ps)
+  pub all_others : (P : Bytes × ℕ → Type 0) (ps : List (Bytes × ℕ)) → AllByRecursion P ps → AllByRecursion P (others_locks n ps)
   unfolding others_locks
   all_others P [] k = tt
   all_others P (p ∷ ps) k = let h = all_others P ps k.1 in grind arith

@@ -2,7 +2,7 @@
 use Rattle.std.proofs.Common.{◌≡◌, ℕ, ◌≤◌, Bool, true, false, cond, not, ◌&&◌, ◌||◌, List, [], ◌∷◌, length, is_some, Some, None, sym, refl, ap, subst, true≢false, arith}
 use Rattle.std.proofs.lemmas.Bool.Decides.{nat_tests}
 use Rattle.std.proofs.lemmas.Bool.{or_parts, and_parts, not-false, leb-true}
-use Rattle.std.specs.List.{AllByRecursion as All}
+use Rattle.std.specs.List.{AllByRecursion}
 use Rattle.storage.specs.Checks.{first}
 use Rattle.file_rules.specs.declared.fault.CallFault.{CallFault}
 use Rattle.file_rules.specs.Calls.{Call, Open, is, number, count, buffer}
@@ -15,15 +15,15 @@ use Rattle.file_rules.specs.Refusals.{tested, checks, refusal}
 -- ---- lists of checks
 
 module _ {F : Type 0} where
-  pub passed : (l : List (Bool × F)) → first l ≡ None → All (λ p. p.0 ≡ false) l
+  pub passed : (l : List (Bool × F)) → first l ≡ None → AllByRecursion (λ p. p.0 ≡ false) l
   passed [] h = tt
   passed (p ∷ ps) h = go p.0 refl h (passed ps)
     where
-      go : (b : Bool) → p.0 ≡ b → cond b (Some p.1) (first ps) ≡ None → (first ps ≡ None → All (λ p. p.0 ≡ false) ps) → All (λ p. p.0 ≡ false) (p ∷ ps)
+      go : (b : Bool) → p.0 ≡ b → cond b (Some p.1) (first ps) ≡ None → (first ps ≡ None → AllByRecursion (λ p. p.0 ≡ false) ps) → AllByRecursion (λ p. p.0 ≡ false) (p ∷ ps)
       go true e h k = absurd (true≢false (ap is_some h))
       go false e h k = (e, k h)
 
-  pub chosen : (Q : F → Type 0) (r : F) (l : List (Bool × F)) → All (λ p. p.0 ≡ true → Q p.1) l → first l ≡ Some r → Q r
+  pub chosen : (Q : F → Type 0) (r : F) (l : List (Bool × F)) → AllByRecursion (λ p. p.0 ≡ true → Q p.1) l → first l ≡ Some r → Q r
   chosen Q r [] a h = absurd (true≢false (sym (ap is_some h)))
   chosen Q r (p ∷ ps) a h = go p.0 refl h (chosen Q r ps a.1)
     where

@@ -5,7 +5,7 @@ use Rattle.std.proofs.lemmas.List.{length-append, drop_at}
 use Rattle.std.proofs.lemmas.Bool.{both_ways, or_cases}
 use Rattle.std.specs.Option.{option_map}
 use Rattle.std.specs.List.Sorted.{IsStrictlySortedBy}
-use Rattle.std.specs.List.{AllByRecursion as All}
+use Rattle.std.specs.List.{AllByRecursion}
 use Rattle.byte_strings.specs.Bytes.{Bytes, order, below, same}
 use Rattle.byte_strings.proofs.TotalOrder.{below_less, below_neither, below_not_same, same_cases, same-flip, is_same}
 use Rattle.storage.specs.Pairs.{under}
@@ -36,16 +36,16 @@ abbrev times : Bytes → List Bytes → ℕ
 times x [] = 0
 times x (y ∷ ys) = cond (same y x) (suc (times x ys)) (times x ys)
 
-times_none : (x : Bytes) (l : List Bytes) → All (λ y. below x y ≡ true) l → times x l ≡ 0
+times_none : (x : Bytes) (l : List Bytes) → AllByRecursion (λ y. below x y ≡ true) l → times x l ≡ 0
 times_none x [] h = refl
 times_none x (y ∷ ys) h = rw (same-flip x y (below_not_same x y h.0)) (times_none x ys h.1)
 
 -- what holds from a state on where number n has the entry o: the law, told by strings
 record Reading (d : Description) (n : ℕ) (o : Entry) (s : PlainFile) (es : List Event) : Type 0 where
   ascending : IsStrictlySortedBy order (strings_read n es)
-  inside : All (λ x. within o x ≡ true) (strings_read n es)
-  along : All (λ e. delivers n e ≡ true → Along d o n e) es
-  whole : exhausted n es ≡ true → (κ x : Bytes) → within o x ≡ true → Keeps d o.path κ x s → All (λ e. Keeps d o.path κ x e.after) es → times x (strings_read n es) ≡ 1
+  inside : AllByRecursion (λ x. within o x ≡ true) (strings_read n es)
+  along : AllByRecursion (λ e. delivers n e ≡ true → Along d o n e) es
+  whole : exhausted n es ≡ true → (κ x : Bytes) → within o x ≡ true → Keeps d o.path κ x s → AllByRecursion (λ e. Keeps d o.path κ x e.after) es → times x (strings_read n es) ≡ 1
 
 -- a record that has a string of the subset belongs to the subset
 kept_found : (d : Description) (s : PlainFile) (o : Entry) (κ x : Bytes) → within o x ≡ true → Keeps d o.path κ x s → (f : Found) × In f (subset d s.pairs o) × (f.string ≡ x)
@@ -62,7 +62,7 @@ module _ (d : Description) (n : ℕ) (o : Entry) (s : PlainFile) (e : Event) (es
     whole = λ t κ x w p a. rw z (go κ x w p a (or_cases _ _ t));
   }
     where
-      go : (κ x : Bytes) → within o x ≡ true → Keeps d o.path κ x s → Keeps d o.path κ x e.after × All (λ e. Keeps d o.path κ x e.after) es → (exhausts n e ≡ true) ⊎ (exhausted n es ≡ true) → times x (strings_read n es) ≡ 1
+      go : (κ x : Bytes) → within o x ≡ true → Keeps d o.path κ x s → Keeps d o.path κ x e.after × AllByRecursion (λ e. Keeps d o.path κ x e.after) es → (exhausts n e ≡ true) ⊎ (exhausted n es ≡ true) → times x (strings_read n es) ≡ 1
       go κ x w p a (inl q) = let f = kept_found d s o κ x w p in absurd (subst (In f.0) (lowest_none (subset d s.pairs o) (k q)) f.1)
       go κ x w p a (inr q) = h.whole q κ x w a.0 a.1
 
@@ -93,13 +93,13 @@ module _ (d : Description) (n : ℕ) (o : Entry) (s : PlainFile) (e : Event) (es
             let l : below x f.string ≡ false = subst (λ y. below y f.string ≡ false) g.2 (low.1 g.0 g.1) in
             absurd (both_ways (same f.string x) ne (is_same f.string x (below_neither f.string x q l)))
 
-        each : (κ x : Bytes) → within o x ≡ true → Keeps d o.path κ x s → Keeps d o.path κ x e.after × All (λ e. Keeps d o.path κ x e.after) es → exhausted n es ≡ true → (f.string ≡ x) ⊎ (same f.string x ≡ false) → cond (same f.string x) (suc (times x (strings_read n es))) (times x (strings_read n es)) ≡ 1
+        each : (κ x : Bytes) → within o x ≡ true → Keeps d o.path κ x s → Keeps d o.path κ x e.after × AllByRecursion (λ e. Keeps d o.path κ x e.after) es → exhausted n es ≡ true → (f.string ≡ x) ⊎ (same f.string x ≡ false) → cond (same f.string x) (suc (times x (strings_read n es))) (times x (strings_read n es)) ≡ 1
         each κ x w p a q (inl eq) =
             let t : times x (strings_read n es) ≡ 0 = times_none x (strings_read n es) (All-weaker (λ y. within (moved_to o f) y ≡ true) (λ y. below x y ≡ true) (λ y v. subst (λ u. below u y ≡ true) eq (back y v).1) (strings_read n es) h.inside) in
             rw (is_same f.string x eq, t)
         each κ x w p a q (inr ne) = rw ne (h.whole q κ x (within-next o f x at w (above κ x w p ne (below f.string x) refl)) a.0 a.1)
 
-        go : (κ x : Bytes) → within o x ≡ true → Keeps d o.path κ x s → Keeps d o.path κ x e.after × All (λ e. Keeps d o.path κ x e.after) es → (exhausts n e ≡ true) ⊎ (exhausted n es ≡ true) → cond (same f.string x) (suc (times x (strings_read n es))) (times x (strings_read n es)) ≡ 1
+        go : (κ x : Bytes) → within o x ≡ true → Keeps d o.path κ x s → Keeps d o.path κ x e.after × AllByRecursion (λ e. Keeps d o.path κ x e.after) es → (exhausts n e ≡ true) ⊎ (exhausted n es ≡ true) → cond (same f.string x) (suc (times x (strings_read n es))) (times x (strings_read n es)) ≡ 1
         go κ x w p a (inl q) =
             let u = (saw_parts Read n 0 e z).2 in
             let v = (saw_parts Read n 1 e q).2 in
@@ -186,7 +186,7 @@ module _ (d : Description) (o : Entry) (n : ℕ) (κ x : Bytes) where
       go (inr e) (inl w) = absurd (both_ways _ e (is_same _ _ (apart w)))
       go (inr e) (inr w) = e ∙ sym w
 
-  by_records : (cs : List Call) (s : PlainFile) → Sound d s → Keeps d o.path κ x s → All (λ e. Keeps d o.path κ x e.after) (trace d s cs) → All (λ e. delivers n e ≡ true → Along d o n e) (trace d s cs) → times_read n κ (trace d s cs) ≡ times x (strings_read n (trace d s cs))
+  by_records : (cs : List Call) (s : PlainFile) → Sound d s → Keeps d o.path κ x s → AllByRecursion (λ e. Keeps d o.path κ x e.after) (trace d s cs) → AllByRecursion (λ e. delivers n e ≡ true → Along d o n e) (trace d s cs) → times_read n κ (trace d s cs) ≡ times x (strings_read n (trace d s cs))
   unfolding trace
   by_records [] s g p a l = refl
   by_records (c ∷ cs) s g p a l = go (delivers n (event d s c)) refl (by_records cs (step d s c).0 (stays_sound d s c g) a.0 a.1 l.1)

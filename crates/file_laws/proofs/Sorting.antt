@@ -2,7 +2,7 @@
 use Rattle.std.proofs.Common.{◌≡◌, Bool, true, false, cond, ◌||◌, T, ◌⊎◌, List, [], ◌∷◌, ◌++◌, Less, sym, refl, ap, ◌∙◌, subst, inl, inr, ⊎_elim, true≢false, arith}
 use Rattle.std.specs.Ordering.{is_lt}
 use Rattle.std.specs.List.Sorted.{IsStrictlySortedBy}
-use Rattle.std.specs.List.{AllByRecursion as All, list_all}
+use Rattle.std.specs.List.{AllByRecursion, list_all}
 use Rattle.std.proofs.ByRecursion.{All-weaker}
 use Rattle.std.proofs.lemmas.Bool.{or_cases}
 use Rattle.byte_strings.specs.Bytes.{Bytes, order, below, same}
@@ -36,12 +36,12 @@ has-sorted x (y ∷ xs) = has-sorted_in x y (sorted xs) ∙ ap (λ b. same y x |
 -- ---- ascending
 
 -- as a test and as a fact
-before_test : (x : Bytes) (ys : List Bytes) → All (λ y. order x y ≡ Less) ys → T (list_all (λ y. is_lt (order x y)) ys)
+before_test : (x : Bytes) (ys : List Bytes) → AllByRecursion (λ y. order x y ≡ Less) ys → T (list_all (λ y. is_lt (order x y)) ys)
 before_test x [] a = tt
 before_test x (y ∷ ys) a =
     both (is_lt (order x y)) (list_all (λ z. is_lt (order x z)) ys) (less_test (order x y) a.0) (before_test x ys a.1)
 
-before_fact : (x : Bytes) (ys : List Bytes) → T (list_all (λ y. is_lt (order x y)) ys) → All (λ y. order x y ≡ Less) ys
+before_fact : (x : Bytes) (ys : List Bytes) → T (list_all (λ y. is_lt (order x y)) ys) → AllByRecursion (λ y. order x y ≡ Less) ys
 before_fact x [] t = tt
 before_fact x (y ∷ ys) t = (
   is_less (order x y) (left (is_lt (order x y)) (list_all (λ z. is_lt (order x z)) ys) t),
@@ -64,7 +64,7 @@ sorted_from_test (x ∷ xs) t = (
 
 -- x comes before all of them
 abbrev Before : Bytes → List Bytes → Type 0
-Before x ys = All (λ y. order x y ≡ Less) ys
+Before x ys = AllByRecursion (λ y. order x y ≡ Less) ys
 
 before_sorted_in : (k x : Bytes) (ys : List Bytes) → order k x ≡ Less → Before k ys → Before k (sorted_in x ys)
 before_sorted_in k x [] h a = (h, tt)

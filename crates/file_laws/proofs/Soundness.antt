@@ -4,7 +4,7 @@ use Rattle.std.proofs.ByRecursion.{All-set}
 use Rattle.std.proofs.lemmas.List.{length-set}
 use Rattle.std.proofs.lemmas.Bool.{or_parts, not_from_false, not-false, eqb-false, leb-false, ltb-false}
 use Rattle.std.specs.Option.{option_map}
-use Rattle.std.specs.List.{AllByRecursion as All}
+use Rattle.std.specs.List.{AllByRecursion}
 use Rattle.byte_strings.specs.Bytes.{Bytes}
 use Rattle.storage.specs.Pairs.{Ascending, keys, total, under, placed, replaced, without}
 use Rattle.storage.specs.Primary.{no_room}
@@ -34,7 +34,7 @@ use Rattle.file_laws.proofs.Uniques.{once_placed, once_replaced, once_without}
 -- what holds of the pairs
 pub record SoundPairs (d : Description) (ps : List (Bytes × Bytes)) : Type 0 where
   pub ordered : Ascending (keys ps)
-  pub pairs : All (PairFits d) ps
+  pub pairs : AllByRecursion (PairFits d) ps
   pub records : length ps ≤ d.record_limit
   pub bytes : total ps ≤ d.byte_limit
 
@@ -54,7 +54,7 @@ module _ (d : Description) (s : PlainFile) (h : Sound d s) where
     locks = h.locks;
   }
 
-  sound_locks : (f : Option ℕ) (ls : List (Bytes × ℕ)) → Ascending (keys ls) → length ls ≤ 32 → All (LockFits d) ls → Sound d (with_locks s f ls)
+  sound_locks : (f : Option ℕ) (ls : List (Bytes × ℕ)) → Ascending (keys ls) → length ls ≤ 32 → AllByRecursion (LockFits d) ls → Sound d (with_locks s f ls)
   sound_locks f ls a l k = record {
     ordered = h.ordered;
     pairs = h.pairs;

@@ -1,6 +1,6 @@
 -- The fresh key build is what it says, and how one record changes it.
 use Rattle.std.specs.Prelude.{◌≡◌, ℕ, true, not, ◌&&◌, ◌||◌, List, length, Some, None}
-use Rattle.std.specs.List.{AllByRecursion as All}
+use Rattle.std.specs.List.{AllByRecursion}
 use Rattle.byte_strings.specs.Bytes.{Bytes}
 use Rattle.storage.specs.Laws.{has}
 use Rattle.storage.specs.Pairs.{Ascending, keys, under, placed, replaced, without}
@@ -27,7 +27,7 @@ pub record Fresh (d : Description) (ps : List (Bytes × Bytes)) (rows : List Byt
 -- the keys ascend, and are as long as κ
 pub record KeysLike (κ : Bytes) (ps : List (Bytes × Bytes)) : Type 0 where
   pub ordered : Ascending (keys ps)
-  pub long : All (λ p. length p.0 ≡ length κ) ps
+  pub long : AllByRecursion (λ p. length p.0 ≡ length κ) ps
 
 pub record BuildLaw (d : Description) : Type 0 where
   pub fresh : (ps : List (Bytes × Bytes)) → Ascending (keys ps) → Fresh d ps (fresh_rows d ps)

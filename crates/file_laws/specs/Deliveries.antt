@@ -1,7 +1,7 @@
 -- The law of deliveries: what an accepted READ or READUPDATE hands over is the record under the key that it leaves as
 -- the current key, with the bytes asked for.
 use Rattle.std.specs.Prelude.{◌≡◌, ℕ, min, true, List, length, take, drop, Some}
-use Rattle.std.specs.List.{AllByRecursion as All}
+use Rattle.std.specs.List.{AllByRecursion}
 use Rattle.byte_strings.specs.Bytes.{Bytes}
 use Rattle.storage.specs.Pairs.{under}
 use Rattle.file_rules.specs.Calls.{number, count, buffer}
@@ -24,4 +24,4 @@ pub record Delivery (n : ℕ) (e : Event) : Type 0 where
   pub handed : Handed bytes (count e.call) (buffer e.call) e.answer.buffer e.answer.moved
 
 abbrev pub DeliveryLaw : List Event → Type 0
-DeliveryLaw events = All (λ e. has_read e ≡ true → Delivery (number e.call) e) events
+DeliveryLaw events = AllByRecursion (λ e. has_read e ≡ true → Delivery (number e.call) e) events

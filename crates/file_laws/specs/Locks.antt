@@ -2,7 +2,7 @@
 --     releases     an accepted CLOSE or UNLOCKFILE of n, or an accepted UNLOCKREC of n for the key
 --     Spared       a call delivers, places, replaces and removes nothing under the key
 use Rattle.std.specs.Prelude.{◌≡◌, ℕ, Bool, true, false, ◌&&◌, ◌||◌, List, ◌∷◌, ◌++◌, Some, ◌≢◌}
-use Rattle.std.specs.List.{AllByRecursion as All}
+use Rattle.std.specs.List.{AllByRecursion}
 use Rattle.byte_strings.specs.Bytes.{Bytes, same}
 use Rattle.storage.specs.Pairs.{under}
 use Rattle.file_rules.specs.Calls.{UnlockFile, UnlockRec, number}
@@ -26,5 +26,5 @@ pub record Spared (d : Description) (κ : Bytes) (e : Event) : Type 0 where
 abbrev pub LockLaw : Description → List Event → Type 0
 LockLaw d events =
     (n : ℕ) (κ : Bytes) (front held back : List Event) (k : Event) → events ≡ front ++ (k ∷ (held ++ back)) →
-    locks n k ≡ true → (own k.before n).current ≡ Some κ → All (λ e. releases n κ e ≡ false) held →
-    All (λ e. (number e.call ≢ n) → Spared d κ e) held
+    locks n k ≡ true → (own k.before n).current ≡ Some κ → AllByRecursion (λ e. releases n κ e ≡ false) held →
+    AllByRecursion (λ e. (number e.call ≢ n) → Spared d κ e) held

@@ -5,7 +5,7 @@
 --     times_read      how many of n's READs delivered the record under a key, left as n's current key
 --     Keeps           the record under a key has that path string
 use Rattle.std.specs.Prelude.{◌≡◌, ℕ, suc, Bool, true, false, cond, ◌&&◌, ◌||◌, List, [], ◌∷◌, ◌++◌, Some}
-use Rattle.std.specs.List.{AllByRecursion as All}
+use Rattle.std.specs.List.{AllByRecursion}
 use Rattle.byte_strings.specs.Bytes.{Bytes, same}
 use Rattle.storage.specs.Pairs.{Ascending, under}
 use Rattle.file_rules.specs.Checks.{given}
@@ -47,9 +47,9 @@ pub record Along (d : Description) (o : Entry) (n : ℕ) (e : Event) : Type 0 wh
 -- the run that follows a KEYPOSITION which left the entry o and the state s
 pub record RunHolds (d : Description) (n : ℕ) (o : Entry) (s : PlainFile) (run : List Event) : Type 0 where
   pub ascending : Ascending (strings_read n run)
-  pub along : All (λ e. delivers n e ≡ true → Along d o n e) run
+  pub along : AllByRecursion (λ e. delivers n e ≡ true → Along d o n e) run
   -- where the run ends with 1, each record that all the while kept one path string in the subset was read exactly once
-  pub whole : exhausted n run ≡ true → (κ x : Bytes) → within o x ≡ true → Keeps d o.path κ x s → All (λ e. Keeps d o.path κ x e.after) run → times_read n κ run ≡ 1
+  pub whole : exhausted n run ≡ true → (κ x : Bytes) → within o x ≡ true → Keeps d o.path κ x s → AllByRecursion (λ e. Keeps d o.path κ x e.after) run → times_read n κ run ≡ 1
 
 abbrev pub RunLaw : Description → List Event → Type 0
 RunLaw d events =

@@ -1,6 +1,6 @@
 -- What every call keeps of the state.
 use Rattle.std.specs.Prelude.{◌≡◌, ℕ, ◌≤◌, true, List, length, Some, None, Option}
-use Rattle.std.specs.List.{AllByRecursion as All}
+use Rattle.std.specs.List.{AllByRecursion}
 use Rattle.byte_strings.specs.Bytes.{Bytes}
 use Rattle.storage.specs.Pairs.{Ascending, keys, total, under}
 use Rattle.file_rules.specs.declared.description.AlternateKey.{AlternateKey}
@@ -41,16 +41,16 @@ UniqueOnce ks ps =
 
 pub record Sound (d : Description) (s : PlainFile) : Type 0 where
   pub ordered : Ascending (keys s.pairs)
-  pub pairs : All (PairFits d) s.pairs
+  pub pairs : AllByRecursion (PairFits d) s.pairs
   pub unique : UniqueOnce d.alternates s.pairs
   pub records : length s.pairs ≤ d.record_limit
   pub bytes : total s.pairs ≤ d.byte_limit
   pub rows : length (fresh_rows d s.pairs) ≤ d.row_limit
   pub eight : length s.entries ≡ 8
-  pub entries : All (IfAny (EntryFits d)) s.entries
+  pub entries : AllByRecursion (IfAny (EntryFits d)) s.entries
   pub locked : Ascending (keys s.record_locks)
   pub few : length s.record_locks ≤ 32
-  pub locks : All (LockFits d) s.record_locks
+  pub locks : AllByRecursion (LockFits d) s.record_locks
 
 abbrev pub StaysSound : Type 0
 StaysSound = (d : Description) (s : PlainFile) (c : Call) → Sound d s → Sound d (step d s c).0

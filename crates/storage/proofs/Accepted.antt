@@ -1,6 +1,6 @@
 -- What it says of a shape, of placing, of replacing and of removing that they are accepted. Assumes nothing.
 use Rattle.std.proofs.Common.{◌≡◌, ℕ, ◌+◌, ◌<◌, ◌≤◌, Bool, true, false, cond, not, List, [], ◌∷◌, length, is_some, Some, None, Ok, Option, unwrap_or, refl, ap, arith}
-use Rattle.std.specs.List.{AllByRecursion as All}
+use Rattle.std.specs.List.{AllByRecursion}
 use Rattle.std.proofs.lemmas.Bool.Decides.{nat_tests}
 use Rattle.byte_strings.specs.Bytes.{Bytes}
 use Rattle.byte_strings.proofs.TotalOrder.{same_is}
@@ -15,11 +15,11 @@ use Rattle.storage.proofs.Figures.{total-placed, total-replaced}
 use Rattle.storage.proofs.OwnPair.{is_none}
 
 -- where a call is accepted, none of its tests holds
-pub none_holds : {F : Type 0} (cs : List (Bool × F)) → settled (first cs) ≡ Ok tt → All (λ c. c.0 ≡ false) cs
+pub none_holds : {F : Type 0} (cs : List (Bool × F)) → settled (first cs) ≡ Ok tt → AllByRecursion (λ c. c.0 ≡ false) cs
 none_holds [] h = tt
 none_holds (c ∷ cs) h = go c.0 refl h (none_holds cs)
   where
-    go : (b : Bool) → c.0 ≡ b → settled (cond b (Some c.1) (first cs)) ≡ Ok tt → (settled (first cs) ≡ Ok tt → All (λ d. d.0 ≡ false) cs) → (c.0 ≡ false) × All (λ d. d.0 ≡ false) cs
+    go : (b : Bool) → c.0 ≡ b → settled (cond b (Some c.1) (first cs)) ≡ Ok tt → (settled (first cs) ≡ Ok tt → AllByRecursion (λ d. d.0 ≡ false) cs) → (c.0 ≡ false) × AllByRecursion (λ d. d.0 ≡ false) cs
     go true e k ih = let z : ◌≡◌ {A = ℕ} 0 1 = cc in absurd (omega arith)
     go false e k ih = (e, ih k)
 
