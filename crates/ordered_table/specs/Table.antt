@@ -1,5 +1,5 @@
 -- Entries in strictly ascending order: where one stands, goes in and comes out.
---     Ascending              each entry comes before all that follow it
+--     is_strictly_sorted_by, Ascending     each entry comes before all that follow it
 --     holds                  whether one of the entries equals x
 --     place                  how many entries come before x, those at the front
 --     searched               what a search answers: the place of what is there, or of what is not
