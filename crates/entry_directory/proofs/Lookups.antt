@@ -1,6 +1,6 @@
 -- The order by record numbers is total, and an entry stands at its number's place. Assumes nothing.
 use Rattle.std.proofs.Common.{◌≡◌, suc, Bool, true, false, cond, T, eqb, List, [], ◌∷◌, get_or, Some, None, Option, Ordering, Less, Equal, Greater, sym, refl, ap, ◌∙◌, true≢false}
-use Rattle.std.specs.Cmp.{IsTotalOrder, nat_cmp_total, unsigned_tied}
+use Rattle.std.specs.Cmp.{IsTotalOrder, nat_cmp_total, unsigned_tied, on_total}
 use Rattle.std.specs.Ordering.{is_lt, is_eq}
 use Rattle.ordered_table.specs.Table.{Ascending, is_strictly_sorted_by, holds, place}
 use Rattle.ordered_table.proofs.Edits.{left, right, beyond, all_above, flipped, none_beyond}
@@ -8,11 +8,7 @@ use Rattle.entry_directory.specs.declared.entry.DirectoryEntry.{DirectoryEntry}
 use Rattle.entry_directory.specs.Numbers.{by_number, entry_of}
 
 pub number_order : IsTotalOrder by_number
-number_order = record {
-  antisymm = λ x y. nat_cmp_total.antisymm x.number y.number;
-  trans = λ x y z. nat_cmp_total.trans x.number y.number z.number;
-  congr = λ x y z. nat_cmp_total.congr x.number y.number z.number;
-}
+number_order = on_total (λ (e : DirectoryEntry). e.number) nat_cmp_total
 
 module _ (probe : DirectoryEntry) where
   missing_step : (b h : Bool) (e : DirectoryEntry) (o : Option DirectoryEntry) → cond b true h ≡ false → (h ≡ false → o ≡ None) → cond b (Some e) o ≡ None

@@ -33,7 +33,7 @@ refused_as false true at f e = let p : f ≡ Full = cc in ap (λ g. Err (row_fau
 refused_as false false at f e = let z : ◌≡◌ {A = ℕ} 0 1 = cc in absurd (omega arith)
 
 abbrev by_text : ByteString 66 → ByteString 66 → Ordering
-by_text x y = order (text x) (text y)
+by_text = by_key text order
 
 -- ---- the table was lent the cells for a row and the entry that holds it
 

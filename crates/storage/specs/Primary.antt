@@ -1,7 +1,9 @@
 -- The refusals of a primary file, in their order.
 --     record_number     the number that a key's bytes make, most significant first
 --     number_key        a record number as a key of four bytes
-use Rattle.std.specs.Prelude.{ℕ, ◌+◌, ◌*◌, ◌/◌, ◌%◌, ◌^◌, Bool, true, false, not, ◌&&◌, ◌||◌, List, [], ◌∷◌, length, is_some, ◌==◌, nat_le, nat_lt}
+--     no_room           placing is refused for want of room
+use Rattle.std.specs.Prelude.{◌≡◌, ℕ, ◌+◌, ◌*◌, ◌/◌, ◌%◌, ◌^◌, Bool, true, false, not, ◌&&◌, ◌||◌, List, [], ◌∷◌, length, is_some, Some, ◌==◌, nat_le, nat_lt}
+use Rattle.std.specs.List.{slice_get}
 use Rattle.std.specs.Option.{unwrap_or}
 use Rattle.byte_strings.specs.Bytes.{Bytes, same}
 use Rattle.storage.specs.declared.faults.PrimaryFault.{PrimaryFault}
@@ -48,6 +50,10 @@ place_checks s ps key bytes =
     ∷ (is_some (under key ps), AlreadyExists)
     ∷ (nat_le s.record_limit (length ps) || too_many_bytes s (placed key bytes ps) || (is_relative s.kind && nat_le s.record_limit (record_number key)), FileFull)
     ∷ []
+
+-- the last of these is the test for room
+abbrev pub PlacingTestsRoom : Type 0
+PlacingTestsRoom = (s : PrimaryShape) (ps : List (Bytes × Bytes)) (key bytes : Bytes) → slice_get (place_checks s ps key bytes) 2 ≡ Some (no_room s ps key bytes, FileFull)
 
 abbrev pub replace_checks : PrimaryShape → List (Bytes × Bytes) → Bytes → Bytes → List (Bool × PrimaryFault)
 replace_checks s ps key bytes =

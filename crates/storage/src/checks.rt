@@ -5,13 +5,14 @@ ghost use Rattle.std.specs.Option.{option_map};
 ghost use Rattle.byte_strings.specs.Bytes.{Bytes, same};
 ghost use Rattle.storage.specs.Checks.{first, settled};
 ghost use Rattle.storage.specs.Pairs.{total, under};
-ghost use Rattle.storage.specs.Primary.{is_relative, is_entry_sequenced, record_number, number_key, wrong_length, place_checks, replace_checks, remove_checks};
+ghost use Rattle.storage.specs.Primary.{is_relative, is_entry_sequenced, record_number, number_key, wrong_length, place_checks, PlacingTestsRoom, replace_checks, remove_checks};
 
 use crate::faults::PrimaryFault;
 use crate::numbers::{number_key, record_number};
 use crate::shape::{FileKind, PrimaryShape};
 
-// What placing answers in every file of that many pairs and bytes, with or without a pair under the key.
+// What placing answers in every file of that many pairs and bytes, with or without a pair under the key. Its last test
+// is the one for room, which is thus said of placing wherever it is cited.
 pub fn check_place(
     shape: PrimaryShape,
     count: usize,
@@ -20,7 +21,8 @@ pub fn check_place(
     key: &[u8],
     bytes: &[u8],
 ) -> Result<(), PrimaryFault>
-    ensures { (ps : List (Bytes × Bytes)) → count ≡ length ps → byte_total ≡ total ps → present ≡ is_some (under key.now ps) → result ≡ settled (first (place_checks shape ps key.now bytes.now)) }
+    ensures value { (ps : List (Bytes × Bytes)) → count ≡ length ps → byte_total ≡ total ps → present ≡ is_some (under key.now ps) → result ≡ settled (first (place_checks shape ps key.now bytes.now)) }
+    ensures room { PlacingTestsRoom }
 {
     if key.len() != shape.key_len
         || is_wrong_length(shape, bytes)
