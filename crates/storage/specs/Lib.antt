@@ -5,6 +5,6 @@ pub mod Pairs
 pub mod Places
 pub mod Primary
 pub mod Reading
+pub mod Refusals
 pub mod Rows
 pub mod Shapes
-pub mod Spaces

@@ -11,19 +11,19 @@ pub struct Absent;
 // Why a primary file refuses.
 #[derive(Clone, Copy, PartialEq, Eq, Debug)]
 pub enum PrimaryFault {
-    AlreadyExists,
-    NotFound,
-    IllegalCount,
-    FileFull,
+    AlreadyExists = 10, // a record has the key
+    NotFound = 11, // no record has the key
+    IllegalCount = 21, // a length, a key or a stated figure is none for this file
+    FileFull = 45, // a stated limit would be passed
 }
 
 // Why a key-row file refuses.
 #[derive(Clone, Copy, PartialEq, Eq, Debug)]
 pub enum RowFault {
-    AlreadyExists,
-    NotFound,
-    IllegalCount,
-    FileFull,
+    AlreadyExists = 10, // the row is there
+    NotFound = 11, // the row is not there
+    IllegalCount = 21, // no row has that length, or no file that limit
+    FileFull = 45, // the row limit is reached
 }
 
 impl Absent {
@@ -38,12 +38,7 @@ impl PrimaryFault {
     pub fn number(self) -> u16
         ensures { result ≡ primary_number self }
     {
-        match self {
-            PrimaryFault::AlreadyExists => 10,
-            PrimaryFault::NotFound => 11,
-            PrimaryFault::IllegalCount => 21,
-            PrimaryFault::FileFull => 45,
-        }
+        self as u16
     }
 }
 
@@ -51,12 +46,7 @@ impl RowFault {
     pub fn number(self) -> u16
         ensures { result ≡ row_number self }
     {
-        match self {
-            RowFault::AlreadyExists => 10,
-            RowFault::NotFound => 11,
-            RowFault::IllegalCount => 21,
-            RowFault::FileFull => 45,
-        }
+        self as u16
     }
 }
 

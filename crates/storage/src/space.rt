@@ -2,10 +2,11 @@
 ghost use Rattle.std.specs.Prelude.{◌≡◌, length, take, MatchResult};
 ghost use Rattle.storage.specs.Checks.{first, settled};
 ghost use Rattle.storage.specs.Rows.{limit_checks};
-ghost use Rattle.storage.specs.Spaces.{space_verdict};
+ghost use Rattle.storage.specs.Refusals.{verdict};
 
 use crate::faults::RowFault;
 use crate::limits::check_row_limit;
+use crate::refused::Refused;
 
 // As many cells as the file made of them is to hold rows.
 #[derive(Drop)]
@@ -19,15 +20,18 @@ impl<'a, C> RowSpace<'a, C> {
     pub fn new(
         memory: &'a mut [C],
         limit: usize,
-    ) -> Result<RowSpace<'a, C>, (&'a mut [C], RowFault)>
-        ensures value { space_verdict result ≡ settled (first (limit_checks limit (length memory.old))) }
-        ensures cases { MatchResult result (λ space. (space.cells.now ≡ take limit memory.old) × (length space.cells.now ≡ limit)) (λ back. back.0.now ≡ memory.old) }
+    ) -> Result<RowSpace<'a, C>, Refused<&'a mut [C], RowFault>>
+        ensures value { verdict result ≡ settled (first (limit_checks limit (length memory.old))) }
+        ensures cases { MatchResult result (λ space. (space.cells.now ≡ take limit memory.old) × (length space.cells.now ≡ limit)) (λ refused. refused.given.now ≡ memory.old) }
     {
         match check_row_limit(limit, memory.len()) {
             Ok(()) => Ok(RowSpace {
                 cells: &mut memory[0..limit],
             }),
-            Err(fault) => Err((memory, fault)),
+            Err(fault) => Err(Refused {
+                given: memory,
+                fault,
+            }),
         }
     }
 

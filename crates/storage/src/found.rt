@@ -1,0 +1,17 @@
+// Handing over a key that was found.
+ghost use Rattle.std.specs.Prelude.{◌≡◌};
+ghost use Rattle.std.specs.Option.{option_map};
+ghost use Rattle.storage.specs.Reading.{found, filled};
+
+use byte_strings::fill_front;
+
+// What finding answers of the key that it has come to, if any: the key's whole length, and the key in the front of the
+// buffer.
+pub fn fill_found(key: Option<&[u8]>, buffer: &mut [u8]) -> Option<usize>
+    ensures value { result ≡ found (option_map (λ k. k.now) key.entry) }
+    ensures after { buffer.new ≡ filled (option_map (λ k. k.now) key.entry) buffer.old }
+{
+    let key = key?;
+    fill_front(key, buffer);
+    Some(key.len())
+}

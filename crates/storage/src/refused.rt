@@ -1,0 +1,8 @@
+// A refusal that hands back what was given.
+
+// What was given, and why it was refused.
+#[derive(Drop)]
+pub struct Refused<G, F> {
+    pub given: G,
+    pub fault: F,
+}
