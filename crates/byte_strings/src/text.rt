@@ -46,7 +46,7 @@ impl<const N: usize> ByteString<N> {
     }
 }
 
-// Equal are those that hold the same bytes.
+// Equal are those that hold the same bytes. A derived comparison would read the bytes behind them too.
 impl<const N: usize> PartialEq for ByteString<N> {
     ghost eq = { λ x y. same (text x) (text y) };
 
