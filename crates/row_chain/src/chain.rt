@@ -91,15 +91,14 @@ impl<'a> RowChain<'a> {
     {
         match (self.seek(from), mark) {
             (Ok(seat), PositionMark::Beyond) => {
-                let slots = &*self.linked.slots;
-                self.row_at(seat.index + 1, slots[seat.at].next)
+                self.row_at(seat.index + 1, self.linked.slots[seat.at].next)
             }
             (Ok(seat), PositionMark::At) => self.row_at(seat.index, seat.at),
             (Err(seat), _) => self.row_at(seat.index, seat.at),
         }
     }
 
-    // The row of that index, to whose slot so many links lead, if there are as many rows.
+    // The row of that index, if there is one, from the slot to which as many links lead.
     fn row_at(&self, index: usize, at: usize) -> Option<&[u8]>
         requires { at ≡ follow (links self.now.linked.slots.now) self.now.linked.head index }
         ensures { option_map (λ row. row.now) result ≡ slice_get (rows self.now.linked) index }

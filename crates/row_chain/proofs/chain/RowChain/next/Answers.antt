@@ -1,4 +1,4 @@
-use Rattle.std.proofs.Common.{◌≡◌, ℕ, ◌+◌, Bool, true, false, sym, refl, ap, ◌∙◌, add-one, List, rules}
+use Rattle.std.proofs.Common.{◌≡◌, ℕ, ◌+◌, false, sym, refl, ap, ◌∙◌, add-one, List, rules}
 use Rattle.std.specs.List.{slice_get}
 use Rattle.byte_strings.specs.Bytes.{Bytes, order}
 use Rattle.ordered_table.specs.Table.{Ascending, holds, place}
@@ -30,17 +30,14 @@ overflow_add-seat c =
     let w = self.within in
     search rules
 
-pub bounds-slots-seat : goal.bounds-slots-seat
-bounds-slots-seat c =
+pub bounds-self-seat : goal.bounds-self-seat
+bounds-self-seat c =
     let self = c.args.self.now in
     let here = c.in-Ok-Beyond.ensures in
     seat_within self.linked c.args.from.now c.in-Ok-Beyond.seat self.whole here.seat (sym here.found)
 
-pub offset_bounds-slots-seat : goal.offset_bounds-slots-seat
-offset_bounds-slots-seat c = let l = bounds-slots-seat c in search rules
-
-pub bounds-slots-seat-in-Ok-Beyond : goal.bounds-slots-seat-in-Ok-Beyond
-bounds-slots-seat-in-Ok-Beyond c = bounds-slots-seat c
+pub offset_bounds-self-seat : goal.offset_bounds-self-seat
+offset_bounds-self-seat c = let l = bounds-self-seat c in search rules
 
 pub row_at-requires : goal.row_at-requires
 row_at-requires c =
@@ -49,7 +46,7 @@ row_at-requires c =
     let seat = c.in-Ok-Beyond.seat in
     let here = c.in-Ok-Beyond.ensures in
     let within = seat_within chain c.args.from.now seat self.whole here.seat (sym here.found) in
-    seats.next-at chain seat.index seat.at c.index-slots-seat.result here.seat.at within ∙ ap (follow (links chain.slots.now) chain.head) (sym (add-one seat.index))
+    seats.next-at chain seat.index seat.at c.index-self-seat.result here.seat.at within ∙ ap (follow (links chain.slots.now) chain.head) (sym (add-one seat.index))
 
 pub returns-in-Ok-Beyond : goal.returns-in-Ok-Beyond
 returns-in-Ok-Beyond c =

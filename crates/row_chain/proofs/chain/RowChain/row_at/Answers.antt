@@ -1,4 +1,4 @@
-use Rattle.std.proofs.Common.{length, sym, ap, ◌∙◌, Some, [], arith, rules}
+use Rattle.std.proofs.Common.{sym, ap, ◌∙◌, Some, [], arith, rules}
 use Rattle.std.proofs.lemmas.Option.{slice_get-get_or, slice_get_past}
 use Rattle.row_chain.specs.Chains.{rows}
 use Rattle.row_chain.proofs.Seats.{length-rows, at_within}

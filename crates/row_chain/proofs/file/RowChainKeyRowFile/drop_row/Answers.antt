@@ -1,4 +1,4 @@
-use Rattle.std.proofs.Common.{◌≤◌, length, sym, refl, ap, ◌∙◌, subst, arith}
+use Rattle.std.proofs.Common.{◌≤◌, length, sym, ap, ◌∙◌, subst, arith}
 use Rattle.byte_strings.specs.Bytes.{order}
 use Rattle.ordered_table.specs.Table.{Ascending, place}
 use Rattle.ordered_table.proofs.Edits.{ascending_cut}
