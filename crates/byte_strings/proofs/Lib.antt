@@ -1,3 +1,2 @@
 pub mod LongProbes
 pub mod TotalOrder
-mod Copies

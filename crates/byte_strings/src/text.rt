@@ -5,7 +5,7 @@ ghost use Rattle.byte_strings.specs.Bytes.{order, same};
 ghost use Rattle.byte_strings.specs.Texts.{text, TotalByText};
 ghost use Rattle.byte_strings.specs.StringOrder.{string_order, string_equality, string_ties};
 
-use crate::order::compare;
+use crate::order::{compare, fill_front};
 use crate::string::ByteString;
 use std::cmp::Ordering;
 
@@ -24,19 +24,11 @@ impl<const N: usize> ByteString<N> {
     pub fn joined(front: &[u8], rest: &[u8]) -> ByteString<N>
         ensures { text result ≡ take N (front.now ++ rest.now) }
     {
-        let n = front.len().min(N);
-        let m = rest.len().min(N - n);
-        let mut all = [0; N];
-        for i in 0..n {
-            all[i] = front[i];
-        }
-        for j in 0..m {
-            all[n + j] = rest[j];
-        }
-        ByteString {
-            bytes: all,
-            len: n + m,
-        }
+        let mut bytes = [0; N];
+        let room = &mut bytes[..];
+        let n = fill_front(front, room);
+        let m = fill_front(rest, &mut room[n..]);
+        ByteString { bytes, len: n + m }
     }
 
     // The first bytes, as many as there is room for.
@@ -54,7 +46,7 @@ impl<const N: usize> ByteString<N> {
     }
 }
 
-// Equal are those that hold the same bytes.
+// Equal are those that hold the same bytes. A derived comparison would read the bytes behind them too.
 impl<const N: usize> PartialEq for ByteString<N> {
     ghost eq = { λ x y. same (text x) (text y) };
 

@@ -6,7 +6,7 @@ use Rattle.std.specs.List.{AllByRecursion, list_all}
 use Rattle.std.proofs.ByRecursion.{All-weaker}
 use Rattle.std.proofs.lemmas.Bool.{or_cases}
 use Rattle.byte_strings.specs.Bytes.{Bytes, order, below, same}
-use Rattle.byte_strings.proofs.TotalOrder.{same_is, is_same, same-flip, order_trans, below_less, less_below, below_neither, below_not_same}
+use Rattle.byte_strings.proofs.TotalOrder.{same_is, is_same, same-flip, total_order, below_less, less_below, below_neither, below_not_same}
 use Rattle.ordered_table.specs.Table.{is_strictly_sorted_by}
 use Rattle.ordered_table.proofs.Edits.{both, left, right, is_less, less_test}
 use Rattle.storage.specs.Laws.{has}
@@ -71,7 +71,7 @@ before_sorted_in k x [] h a = (h, tt)
 before_sorted_in k x (y ∷ ys) h a = let i = before_sorted_in k x ys h a.1 in grind arith
 
 earlier : (x y : Bytes) (zs : List Bytes) → order x y ≡ Less → Before y zs → Before x zs
-earlier x y zs h a = All-weaker (λ z. order y z ≡ Less) (λ z. order x z ≡ Less) (λ z. order_trans x y z h) zs a
+earlier x y zs h a = All-weaker (λ z. order y z ≡ Less) (λ z. order x z ≡ Less) (λ z. total_order.trans x y z h) zs a
 
 sorted_in_sorted : (x : Bytes) (ys : List Bytes) → IsStrictlySortedBy order ys → IsStrictlySortedBy order (sorted_in x ys)
 unfolding IsStrictlySortedBy

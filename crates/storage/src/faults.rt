@@ -3,6 +3,8 @@ ghost use Rattle.std.specs.Prelude.{◌≡◌};
 ghost use Rattle.storage.specs.Faults.{primary_number, row_number, absent_number, row_fault};
 
 use ordered_table::InsertFault;
+use std::error::Error;
+use std::fmt;
 
 // No pair has the key.
 #[derive(Clone, Copy, PartialEq, Eq, Debug)]
@@ -17,7 +19,8 @@ pub enum PrimaryFault {
     FileFull = 45, // a stated limit would be passed
 }
 
-// Why a key-row file refuses.
+// Why a key-row file refuses. It is a type of its own, so that `?` carries each fault into its layer; one enum in two
+// wrappers would be longer to write at every refusal.
 #[derive(Clone, Copy, PartialEq, Eq, Debug)]
 pub enum RowFault {
     AlreadyExists = 10, // the row is there
@@ -61,3 +64,37 @@ impl From<InsertFault> for RowFault {
         }
     }
 }
+
+impl fmt::Display for Absent {
+    fn fmt<W: fmt::Write>(&self, f: &mut fmt::Formatter<W>) -> fmt::Result {
+        f.write_str("no pair has the key")
+    }
+}
+
+impl Error for Absent {}
+
+impl fmt::Display for PrimaryFault {
+    fn fmt<W: fmt::Write>(&self, f: &mut fmt::Formatter<W>) -> fmt::Result {
+        f.write_str(match self {
+            PrimaryFault::AlreadyExists => "the record is there already",
+            PrimaryFault::NotFound => "the record is not there",
+            PrimaryFault::IllegalCount => "the length, the key or a stated figure is illegal",
+            PrimaryFault::FileFull => "the primary file is full",
+        })
+    }
+}
+
+impl Error for PrimaryFault {}
+
+impl fmt::Display for RowFault {
+    fn fmt<W: fmt::Write>(&self, f: &mut fmt::Formatter<W>) -> fmt::Result {
+        f.write_str(match self {
+            RowFault::AlreadyExists => "the key row is there already",
+            RowFault::NotFound => "the key row is not there",
+            RowFault::IllegalCount => "the length of the key row, or the row limit, is illegal",
+            RowFault::FileFull => "the key-row file is full",
+        })
+    }
+}
+
+impl Error for RowFault {}

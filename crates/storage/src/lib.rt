@@ -17,8 +17,7 @@ mod rows;
 mod shape;
 mod space;
 
-pub use bounds::{LONGEST_KEY, LONGEST_RECORD, MOST_BYTES, MOST_RECORDS, NUMBER_LEN, check_shape};
-pub use checks::{check_place, check_remove, check_replace};
+pub use bounds::{LONGEST_KEY, LONGEST_RECORD, MOST_BYTES, MOST_RECORDS, NUMBER_LEN};
 pub use faults::{Absent, PrimaryFault, RowFault};
 pub use found::fill_found;
 pub use limits::{KeyRow, LONGEST_ROW, MOST_ROWS, check_row, check_row_limit};

@@ -17,7 +17,7 @@ pub type KeyRow = ByteString<LONGEST_ROW>;
 pub fn check_row(row: &[u8]) -> Result<(), RowFault>
     ensures { result ≡ settled (first (row_checks row.now)) }
 {
-    if row.is_empty() || row.len() > LONGEST_ROW {
+    if !(1..=LONGEST_ROW).contains(&row.len()) {
         return Err(RowFault::IllegalCount);
     }
     Ok(())
@@ -27,7 +27,7 @@ pub fn check_row(row: &[u8]) -> Result<(), RowFault>
 pub fn check_row_limit(limit: usize, held: usize) -> Result<(), RowFault>
     ensures { result ≡ settled (first (limit_checks limit held)) }
 {
-    if limit < 1 || limit > MOST_ROWS || limit > held {
+    if !(1..=MOST_ROWS).contains(&limit) || limit > held {
         return Err(RowFault::IllegalCount);
     }
     Ok(())
