@@ -1,6 +1,9 @@
 // A table of entries over cells that a caller lends. The entries stand at the front, strictly ascending; the cells
 // behind them are free.
 ghost use Rattle.std.specs.Prelude.{◌≡◌, ◌<◌, ◌≤◌, [], length, take, MatchResult};
+ghost use Rattle.std.specs.List.{find};
+ghost use Rattle.std.specs.Option.{option_copied};
+ghost use Rattle.std.specs.Ordering.{is_eq};
 ghost use Rattle.ordered_table.specs.Table.{Ascending, searched, insertion, removal};
 
 use crate::fault::InsertFault;
@@ -44,6 +47,14 @@ impl<'a, E: Ord> OrderedTable<'a, E> {
         ensures value { result ≡ searched E.Ord.cmp (entries self.now) probe.now }
     {
         search(self.cells, self.used, probe)
+    }
+
+    // The entry equal to the probe, if there is one.
+    pub fn get(&self, probe: &E) -> Option<&E>
+        ensures { option_copied result ≡ find (λ e. is_eq (E.Ord.cmp e probe.now)) (entries self.now) }
+    {
+        let at = self.search(probe).ok()?;
+        Some(&self.as_slice()[at])
     }
 
     // Puts the entry in at its place: where it stands now. Refused where an equal entry is there, then where there is no
