@@ -1,5 +1,5 @@
 -- Where an entry stands among entries that ascend. Assumes nothing.
-use Rattle.std.proofs.Common.{◌≡◌, ℕ, zero, suc, ◌+◌, ◌<◌, ◌≤◌, Bool, true, false, cond, ◌&&◌, T, List, [], ◌∷◌, map, length, get_or, Some, Ok, Err, Option, Result, Ordering, Less, Equal, Greater, sym, refl, ap, ◌∙◌, ⊎_elim, true≢false, suc-le-suc, zero-le, le_of_suc-le-suc, not-suc-le-zero, arith, MatchResult}
+use Rattle.std.proofs.Common.{◌≡◌, ℕ, zero, suc, ◌+◌, ◌<◌, ◌≤◌, Bool, true, false, cond, ◌&&◌, T, List, [], ◌∷◌, map, leb, length, get_or, Some, None, Ok, Err, Option, Result, Ordering, Less, Equal, Greater, sym, refl, ap, ◌∙◌, ⊎_elim, true≢false, suc-le-suc, zero-le, le_of_suc-le-suc, not-suc-le-zero, arith, MatchResult}
 use Rattle.std.specs.Cmp.{IsTotalOrder, alike_right}
 use Rattle.std.specs.Ordering.{is_lt, is_eq, ordering_reverse, ordering_index}
 use Rattle.std.specs.List.Sorted.{IsBinarySearchResult, IsNonDecreasingBy}
@@ -8,7 +8,8 @@ use Rattle.std.specs.Option.{option_map}
 use Rattle.std.specs.Result.{result_ok}
 use Rattle.std.proofs.lemmas.List.Sorted.{searchable_from_sorted}
 use Rattle.std.proofs.lemmas.Bool.{cases_eq, cases_lt}
-use Rattle.ordered_table.specs.Table.{Ascending, is_strictly_sorted_by, holds, place, searched}
+use Rattle.ordered_table.specs.Table.{Ascending, is_strictly_sorted_by, holds, place, searched, insertion, removal}
+use Rattle.ordered_table.specs.declared.fault.InsertFault.TheVariants.{Present, Full}
 use Rattle.ordered_table.proofs.Edits.{flipped, is_less, left, right, beyond, all_above, none_beyond}
 
 module _ {E : Type 0} (cmp : E → E → Ordering) where
@@ -139,6 +140,16 @@ module _ {E K : Type 0} (key : E → K) (cmp : K → K → Ordering) where
   unfolding place
   place-keys [] x = refl
   place-keys (y ∷ ys) x = ap (λ n. cond (is_lt (by_key y x)) (suc n) 0) (place-keys ys x)
+
+  pub searched-keys : (xs : List E) (x : E) → searched by_key xs x ≡ searched cmp (map key xs) (key x)
+  searched-keys xs x = λ t. cond (holds-keys xs x t) (Ok (place-keys xs x t)) (Err (place-keys xs x t))
+
+  pub insertion-keys : (cells used : ℕ) (xs : List E) (x : E) → insertion by_key cells used xs x ≡ insertion cmp cells used (map key xs) (key x)
+  insertion-keys cells used xs x =
+      λ t. cond (holds-keys xs x t) (Err Present) (cond (leb cells used) (Err Full) (Ok (place-keys xs x t)))
+
+  pub removal-keys : (xs : List E) (x : E) → removal by_key xs x ≡ removal cmp (map key xs) (key x)
+  removal-keys xs x = λ t. cond (holds-keys xs x t) (Some (place-keys xs x t)) None
 
   pass_keys : (x : E) (ys : List E) → list_all (λ y. is_lt (by_key x y)) ys ≡ list_all (λ k. is_lt (cmp (key x) k)) (map key ys)
   pass_keys x [] = refl

@@ -1,6 +1,6 @@
 // A table of entries over cells that a caller lends. The entries stand at the front, strictly ascending; the cells
 // behind them are free.
-ghost use Rattle.std.specs.Prelude.{◌≡◌, ◌<◌, ◌≤◌, [], length, take, MatchResult};
+ghost use Rattle.std.specs.Prelude.{◌≡◌, ◌^◌, ◌<◌, ◌≤◌, [], length, take, MatchResult};
 ghost use Rattle.std.specs.List.{find};
 ghost use Rattle.std.specs.Option.{option_copied};
 ghost use Rattle.std.specs.Ordering.{is_eq};
@@ -14,6 +14,7 @@ pub struct OrderedTable<'a, E: Ord> {
     cells: &'a mut [E],
     used: usize,
     ghost within: { used ≤ length cells.now },
+    ghost countable: { used < 2 ^ 64 },
     ghost ascending: { Ascending E.Ord.cmp (take used cells.now) },
 }
 
