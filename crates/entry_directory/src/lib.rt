@@ -3,7 +3,6 @@
 
 mod directory;
 mod entry;
-mod lookup;
 
 pub use directory::Directory;
 pub use entry::DirectoryEntry;

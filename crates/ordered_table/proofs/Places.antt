@@ -1,13 +1,16 @@
 -- Where an entry stands among entries that ascend. Assumes nothing.
-use Rattle.std.proofs.Common.{◌≡◌, ℕ, zero, suc, ◌+◌, ◌<◌, ◌≤◌, Bool, true, false, cond, ◌&&◌, T, List, [], ◌∷◌, map, length, get_or, Ok, Err, Result, Ordering, Less, Equal, Greater, sym, refl, ap, ◌∙◌, ⊎_elim, true≢false, suc-le-suc, zero-le, le_of_suc-le-suc, not-suc-le-zero, arith, MatchResult}
+use Rattle.std.proofs.Common.{◌≡◌, ℕ, zero, suc, ◌+◌, ◌<◌, ◌≤◌, Bool, true, false, cond, ◌&&◌, T, List, [], ◌∷◌, map, leb, length, get_or, Some, None, Ok, Err, Option, Result, Ordering, Less, Equal, Greater, sym, refl, ap, ◌∙◌, ⊎_elim, true≢false, suc-le-suc, zero-le, le_of_suc-le-suc, not-suc-le-zero, arith, MatchResult}
 use Rattle.std.specs.Cmp.{IsTotalOrder, alike_right}
 use Rattle.std.specs.Ordering.{is_lt, is_eq, ordering_reverse, ordering_index}
 use Rattle.std.specs.List.Sorted.{IsBinarySearchResult, IsNonDecreasingBy}
-use Rattle.std.specs.List.{list_all}
+use Rattle.std.specs.List.{list_all, find}
+use Rattle.std.specs.Option.{option_map}
+use Rattle.std.specs.Result.{result_ok}
 use Rattle.std.proofs.lemmas.List.Sorted.{searchable_from_sorted}
 use Rattle.std.proofs.lemmas.Bool.{cases_eq, cases_lt}
-use Rattle.ordered_table.specs.Table.{Ascending, is_strictly_sorted_by, holds, place, searched}
-use Rattle.ordered_table.proofs.Edits.{flipped, is_less, left, right}
+use Rattle.ordered_table.specs.Table.{Ascending, is_strictly_sorted_by, holds, place, searched, insertion, removal}
+use Rattle.ordered_table.specs.declared.fault.InsertFault.TheVariants.{Present, Full}
+use Rattle.ordered_table.proofs.Edits.{flipped, is_less, left, right, beyond, all_above, none_beyond}
 
 module _ {E : Type 0} (cmp : E → E → Ordering) where
   before_each : (x : E) (ys : List E) (j : ℕ) (d : E) → T (list_all (λ y. is_lt (cmp x y)) ys) → j < length ys → cmp x (get_or ys j d) ≡ Less
@@ -107,6 +110,22 @@ module _ {E : Type 0} {R : E → E → Ordering} (o : IsTotalOrder R) where
       let f = missing_at R xs x x i b (λ k l. p.0 k x zero-le l) (λ k le l. p.1 k x le l) in
       sym (λ t. cond (f.0 t) (Ok (f.1 t)) (Err (f.1 t)))
 
+  find_step : (y d : E) (ys : List E) (r : Ordering) (h : Bool) (p : ℕ) (found : Option E) → (r ≡ Greater → h ≡ false) → found ≡ option_map (λ i. get_or ys i d) (result_ok (cond h (Ok p) (Err p))) → cond (is_eq r) (Some y) found ≡ option_map (λ i. get_or (y ∷ ys) i d) (result_ok (cond (cond (is_eq r) true h) (Ok (cond (is_lt r) (suc p) 0)) (Err (cond (is_lt r) (suc p) 0))))
+  find_step y d ys Less true p found a e = e
+  find_step y d ys Less false p found a e = e
+  find_step y d ys Equal h p found a e = refl
+  find_step y d ys Greater true p found a e = absurd (true≢false (a refl))
+  find_step y d ys Greater false p found a e = e
+
+  -- the first entry that equals x is the one that a search answers
+  pub find-searched : (xs : List E) (x d : E) → Ascending R xs → find (λ y. is_eq (R y x)) xs ≡ option_map (λ i. get_or xs i d) (result_ok (searched R xs x))
+  unfolding holds place
+  find-searched [] x d up = refl
+  find-searched (y ∷ ys) x d up =
+      find_step y d ys (R y x) (holds R ys x) (place R ys x) (find (λ z. is_eq (R z x)) ys)
+      (λ g. none_beyond o x ys (all_above o x y (flipped o y x Greater g) ys (left (beyond o y ys) (is_strictly_sorted_by R ys) up)))
+      (find-searched ys x d (right (beyond o y ys) (is_strictly_sorted_by R ys) up))
+
 -- entries ordered by a key: the table of the entries and that of their keys
 module _ {E K : Type 0} (key : E → K) (cmp : K → K → Ordering) where
   abbrev pub by_key : E → E → Ordering
@@ -121,6 +140,16 @@ module _ {E K : Type 0} (key : E → K) (cmp : K → K → Ordering) where
   unfolding place
   place-keys [] x = refl
   place-keys (y ∷ ys) x = ap (λ n. cond (is_lt (by_key y x)) (suc n) 0) (place-keys ys x)
+
+  pub searched-keys : (xs : List E) (x : E) → searched by_key xs x ≡ searched cmp (map key xs) (key x)
+  searched-keys xs x = λ t. cond (holds-keys xs x t) (Ok (place-keys xs x t)) (Err (place-keys xs x t))
+
+  pub insertion-keys : (cells used : ℕ) (xs : List E) (x : E) → insertion by_key cells used xs x ≡ insertion cmp cells used (map key xs) (key x)
+  insertion-keys cells used xs x =
+      λ t. cond (holds-keys xs x t) (Err Present) (cond (leb cells used) (Err Full) (Ok (place-keys xs x t)))
+
+  pub removal-keys : (xs : List E) (x : E) → removal by_key xs x ≡ removal cmp (map key xs) (key x)
+  removal-keys xs x = λ t. cond (holds-keys xs x t) (Some (place-keys xs x t)) None
 
   pass_keys : (x : E) (ys : List E) → list_all (λ y. is_lt (by_key x y)) ys ≡ list_all (λ k. is_lt (cmp (key x) k)) (map key ys)
   pass_keys x [] = refl

@@ -1,10 +1,9 @@
 -- A search along the chain comes to the row's seat. Assumes nothing.
-use Rattle.std.proofs.Common.{◌≡◌, ℕ, suc, ◌<◌, ◌≤◌, true, false, [], length, get_or, Some, Ordering, Less, Equal, Greater, sym, refl, ap, ◌∙◌, ⊎_elim, arith}
-use Rattle.std.proofs.lemmas.Bool.{cases_eq}
+use Rattle.std.proofs.Common.{◌≡◌, ℕ, ◌+◌, ◌<◌, ◌≤◌, true, false, [], length, get_or, Some, Ordering, Less, Equal, Greater, sym, ap, ◌∙◌, subst, add-one, below_more, arith}
 use Rattle.byte_strings.specs.Bytes.{Bytes, order}
 use Rattle.byte_strings.specs.Texts.{text}
 use Rattle.byte_strings.proofs.TotalOrder.{total_order}
-use Rattle.ordered_table.specs.Table.{Ascending}
+use Rattle.ordered_table.specs.Table.{Ascending, holds}
 use Rattle.ordered_table.proofs.Places.{found_at, missing_at, greater_on}
 use Rattle.row_chain.specs.declared.links.LinkedSlots.{LinkedSlots}
 use Rattle.row_chain.specs.declared.seat.Seat.{Seat}
@@ -16,49 +15,49 @@ use Rattle.row_chain.proofs.Seats.{length-rows, at_within, row_at, next-at}
 
 -- the search has come to a seat: all rows before it come before the row
 pub record Reached (chain : LinkedSlots) (row : Bytes) (seat : Seat) : Type 0 where
-  pub found : seat.found ≡ false
-  pub index : seat.index ≤ chain.count
   pub before : seat.before ≡ slot_before (links chain.slots.now) chain.head seat.index
   pub at : seat.at ≡ follow (links chain.slots.now) chain.head seat.index
   pub below : (k : ℕ) → k < seat.index → order (get_or (rows chain) k []) row ≡ Less
 
-module _ (chain : LinkedSlots) (row : Bytes) where
-  module _ (seat : Seat) (here : Reached chain row seat) where
-    module _ (whole : Whole chain) (l : seat.index < chain.count) (slot : Slot) (read : slot ≡ get_or chain.slots.now seat.at slot) where
+module _ {chain : LinkedSlots} {row : Bytes} {seat : Seat} (here : Reached chain row seat) where
+  module _ (whole : Whole chain) (l : seat.index < chain.count) where
+    pub within : seat.at < length chain.slots.now
+    within = at_within chain whole seat.index seat.at here.at l
+
+    module _ (slot : Slot) (read : slot ≡ get_or chain.slots.now seat.at slot) where
       -- how the row there compares
       pub order-at : (key : Bytes) (r : Ordering) → key ≡ text slot.row → r ≡ order key row → order (get_or (rows chain) seat.index []) row ≡ r
       order-at key r told said =
-          let within = at_within chain whole seat.index seat.at here.at l in
           ap (λ y. order y row) (row_at chain seat.index seat.at slot here.at within l ∙ (ap (λ s. text s.row) (sym read) ∙ sym told))
           ∙ sym said
 
-      pub reached_on : order (get_or (rows chain) seat.index []) row ≡ Less → Reached chain row (record { found = false; index = suc seat.index; before = Some seat.at; at = slot.next })
+      pub reached_on : order (get_or (rows chain) seat.index []) row ≡ Less → Reached chain row (record { index = seat.index + 1; before = Some seat.at; at = slot.next })
       reached_on less =
+          let on = add-one seat.index in
           record {
-            found = refl;
-            index = l;
-            before = ap Some here.at;
-            at = ap (λ s. s.next) read ∙ next-at chain seat.index seat.at slot here.at (at_within chain whole seat.index seat.at here.at l);
-            below = λ k h.
-                ⊎_elim (λ same. ap (λ j. order (get_or (rows chain) j []) row) same ∙ less) (λ other. here.below k (omega arith)) (cases_eq k seat.index);
+            before = ap Some here.at ∙ ap (slot_before (links chain.slots.now) chain.head) (sym on);
+            at = ap (λ s. s.next) read ∙ (next-at chain seat.index seat.at slot here.at within ∙ ap (follow (links chain.slots.now) chain.head) (sym on));
+            below = below_more _ _ here.below less;
           }
 
-    module _ (up : Ascending order (rows chain)) where
-      pub seated_equal : seat.index < chain.count → order (get_or (rows chain) seat.index []) row ≡ Equal → Seated chain row (record { found = true; index = seat.index; before = seat.before; at = seat.at })
-      seated_equal l e =
-          let n = length-rows chain in
-          let there = found_at total_order (rows chain) row [] seat.index up (omega arith) e in
-          record { found = sym there.0; index = sym there.1; before = here.before; at = here.at }
+  module _ (up : Ascending order (rows chain)) where
+    pub seated_equal : seat.index < chain.count → order (get_or (rows chain) seat.index []) row ≡ Equal → (true ≡ holds order (rows chain) row) × Seated chain row seat
+    seated_equal l e =
+        let n = length-rows chain in
+        let there = found_at total_order (rows chain) row [] seat.index up (omega arith) e in
+        (sym there.0, record { index = sym there.1; before = here.before; at = here.at })
 
-      missing : ((k : ℕ) → seat.index ≤ k → k < length (rows chain) → order (get_or (rows chain) k []) row ≡ Greater) → Seated chain row seat
-      missing above =
-          let n = length-rows chain in
-          let low = here.index in
-          let there = missing_at order (rows chain) row [] seat.index (omega arith) here.below above in
-          record { found = here.found ∙ sym there.0; index = sym there.1; before = here.before; at = here.at }
+    missing : seat.index ≤ chain.count → ((k : ℕ) → seat.index ≤ k → k < length (rows chain) → order (get_or (rows chain) k []) row ≡ Greater) → (false ≡ holds order (rows chain) row) × Seated chain row seat
+    missing l above =
+        let n = length-rows chain in
+        let there = missing_at order (rows chain) row [] seat.index (omega arith) here.below above in
+        (sym there.0, record { index = sym there.1; before = here.before; at = here.at })
 
-      pub seated_greater : order (get_or (rows chain) seat.index []) row ≡ Greater → Seated chain row seat
-      seated_greater e = missing (greater_on total_order (rows chain) row [] seat.index up e)
+    pub seated_greater : seat.index < chain.count → order (get_or (rows chain) seat.index []) row ≡ Greater → (false ≡ holds order (rows chain) row) × Seated chain row seat
+    seated_greater l e = missing (omega arith) (greater_on total_order (rows chain) row [] seat.index up e)
 
-      pub seated_end : chain.count ≤ seat.index → Seated chain row seat
-      seated_end l = let n = length-rows chain in missing (λ k h b. absurd (omega arith))
+    pub seated_end : seat.index ≡ chain.count → (false ≡ holds order (rows chain) row) × Seated chain row (record { index = chain.count; before = seat.before; at = seat.at })
+    seated_end e =
+        let n = length-rows chain in
+        let there = missing (omega arith) (λ k h b. absurd (omega arith)) in
+        (there.0, subst (λ i. Seated chain row (record { index = i; before = seat.before; at = seat.at })) e there.1)

@@ -3,14 +3,13 @@
 --     Relinked, Spliced, Unlinked     what led to a seat leads to another slot; a row put in; a row taken out
 use Rattle.std.specs.Prelude.{◌≡◌, ℕ, suc, pred, Option, slice_index, slice_set}
 use Rattle.byte_strings.specs.Bytes.{Bytes, order}
-use Rattle.ordered_table.specs.Table.{holds, place}
+use Rattle.ordered_table.specs.Table.{place}
 use Rattle.row_chain.specs.declared.links.LinkedSlots.{LinkedSlots}
 use Rattle.row_chain.specs.declared.seat.Seat.{Seat}
 use Rattle.row_chain.specs.Chains.{rows}
 use Rattle.row_chain.specs.Links.{texts, links, follow, slot_before, redirected, new_head}
 
 pub record Seated (chain : LinkedSlots) (row : Bytes) (seat : Seat) : Type 0 where
-  pub found : seat.found ≡ holds order (rows chain) row
   pub index : seat.index ≡ place order (rows chain) row
   pub before : seat.before ≡ slot_before (links chain.slots.now) chain.head seat.index
   pub at : seat.at ≡ follow (links chain.slots.now) chain.head seat.index

@@ -1,11 +1,12 @@
 // Linked slots of which none is lost, and whose rows ascend along their chain.
-ghost use Rattle.std.specs.Prelude.{◌≡◌, ◌≤◌, [], length, MatchResult};
+ghost use Rattle.std.specs.Prelude.{◌≡◌, ◌≤◌, [], length, is_ok, slice_get, MatchResult};
+ghost use Rattle.std.specs.Option.{option_map};
 ghost use Rattle.byte_strings.specs.Bytes.{order};
-ghost use Rattle.ordered_table.specs.Table.{Ascending, holds, place};
+ghost use Rattle.ordered_table.specs.Table.{Ascending, holds};
 ghost use Rattle.storage.specs.Checks.{first, settled};
-ghost use Rattle.storage.specs.Places.{next_place};
+ghost use Rattle.storage.specs.Pairs.{next};
+ghost use Rattle.storage.specs.Refusals.{verdict};
 ghost use Rattle.storage.specs.Rows.{limit_checks};
-ghost use Rattle.storage.specs.Spaces.{space_verdict};
 ghost use Rattle.row_chain.specs.Chains.{Whole, rows};
 ghost use Rattle.row_chain.specs.Links.{links, follow};
 ghost use Rattle.row_chain.specs.Seats.{Seated};
@@ -15,7 +16,7 @@ use crate::seat::Seat;
 use crate::slot::Slot;
 use byte_strings::compare;
 use std::cmp::Ordering;
-use storage::{PositionMark, RowFault, RowSpace};
+use storage::{PositionMark, Refused, RowFault, RowSpace};
 
 #[derive(Drop)]
 pub struct RowChain<'a> {
@@ -31,14 +32,11 @@ impl<'a> RowChain<'a> {
     pub fn new(
         memory: &'a mut [Slot],
         limit: usize,
-    ) -> Result<RowChain<'a>, (&'a mut [Slot], RowFault)>
-        ensures value { space_verdict result ≡ settled (first (limit_checks limit (length memory.old))) }
-        ensures cases { MatchResult result (λ made. (rows made.linked ≡ []) × (length made.linked.slots.now ≡ limit)) (λ back. back.0.now ≡ memory.old) }
+    ) -> Result<RowChain<'a>, Refused<&'a mut [Slot], RowFault>>
+        ensures value { verdict result ≡ settled (first (limit_checks limit (length memory.old))) }
+        ensures cases { MatchResult result (λ made. (rows made.linked ≡ []) × (length made.linked.slots.now ≡ limit)) (λ refused. refused.given.now ≡ memory.old) }
     {
-        match RowSpace::new(memory, limit) {
-            Ok(space) => Ok(RowChain::over(space)),
-            Err(back) => Err(back),
-        }
+        Ok(RowChain::over(RowSpace::new(memory, limit)?))
     }
 
     // A file with no row, which may come to hold as many as the space has slots.
@@ -48,8 +46,8 @@ impl<'a> RowChain<'a> {
     {
         let slots = space.into_cells();
         // all slots make one free chain
-        for i in 0..slots.len() {
-            slots[i].next = i + 1;
+        for (i, slot) in slots.iter_mut().enumerate() {
+            slot.next = i + 1;
         }
         RowChain {
             linked: LinkedSlots {
@@ -61,43 +59,54 @@ impl<'a> RowChain<'a> {
         }
     }
 
-    // Where the row stands, or would stand.
-    pub(crate) fn seek(&self, row: &[u8]) -> Seat
-        ensures { Seated self.now.linked row.now result }
+    // Where the row stands, or else would stand.
+    pub(crate) fn seek(&self, row: &[u8]) -> Result<Seat, Seat>
+        ensures found { is_ok result ≡ holds order (rows self.now.linked) row.now }
+        ensures seat { MatchResult result (Seated self.now.linked row.now) (Seated self.now.linked row.now) }
     {
         let slots = &*self.linked.slots;
-        let mut seat = Seat {
-            found: false,
-            index: 0,
-            before: None,
-            at: self.linked.head,
-        };
-        while seat.index < self.linked.count {
-            let slot = &slots[seat.at];
+        let mut before = None;
+        let mut at = self.linked.head;
+        for index in 0..self.linked.count {
+            let slot = &slots[at];
             match compare(slot.row.as_slice(), row) {
-                Ordering::Less => seat = seat.behind(slot.next),
-                Ordering::Equal => return Seat {
-                    found: true,
-                    ..seat
-                },
-                Ordering::Greater => return seat,
+                Ordering::Less => {
+                    before = Some(at);
+                    at = slot.next;
+                }
+                Ordering::Equal => return Ok(Seat { index, before, at }),
+                Ordering::Greater => return Err(Seat { index, before, at }),
             }
         }
-        seat
+        Err(Seat {
+            index: self.linked.count,
+            before,
+            at,
+        })
     }
 
-    // Where the next row stands from there on: how many come before it, and its slot, if any row is left.
-    pub(crate) fn seek_next(&self, from: &[u8], mark: PositionMark) -> (usize, usize)
-        ensures index { result.0 ≡ next_place mark (holds order (rows self.now.linked) from.now) (place order (rows self.now.linked) from.now) }
-        ensures at { result.1 ≡ follow (links self.now.linked.slots.now) self.now.linked.head result.0 }
+    // The row that comes next from there on, if any is left.
+    pub(crate) fn next(&self, from: &[u8], mark: PositionMark) -> Option<&[u8]>
+        ensures { option_map (λ row. row.now) result ≡ next mark from.now (rows self.now.linked) }
     {
-        let seat = self.seek(from);
-        match mark {
-            PositionMark::Beyond if seat.found => {
-                let slots = &*self.linked.slots;
-                (seat.index + 1, slots[seat.at].next)
+        match (self.seek(from), mark) {
+            (Ok(seat), PositionMark::Beyond) => {
+                self.row_at(seat.index + 1, self.linked.slots[seat.at].next)
             }
-            _ => (seat.index, seat.at),
+            (Ok(seat), PositionMark::At) => self.row_at(seat.index, seat.at),
+            (Err(seat), _) => self.row_at(seat.index, seat.at),
         }
+    }
+
+    // The row of that index, if there is one, from the slot to which as many links lead.
+    fn row_at(&self, index: usize, at: usize) -> Option<&[u8]>
+        requires { at ≡ follow (links self.now.linked.slots.now) self.now.linked.head index }
+        ensures { option_map (λ row. row.now) result ≡ slice_get (rows self.now.linked) index }
+    {
+        if index >= self.linked.count {
+            return None;
+        }
+        let slots = &*self.linked.slots;
+        Some(slots[at].row.as_slice())
     }
 }

@@ -4,8 +4,9 @@ ghost use Rattle.storage.specs.Rows.{bare, bare_ascending};
 ghost use Rattle.row_chain.specs.Chains.{rows};
 
 use crate::chain::RowChain;
-use byte_strings::fill_front;
-use storage::{Absent, KeyRow, KeyRowFile, OrderedReading, PositionMark, RowFault, check_row};
+use storage::{
+    Absent, KeyRow, KeyRowFile, OrderedReading, PositionMark, RowFault, check_row, fill_found,
+};
 
 impl OrderedReading for RowChain<'_> {
     ghost pairs = { λ s. bare (rows s.linked) };
@@ -21,22 +22,14 @@ impl OrderedReading for RowChain<'_> {
         0
     }
 
-    fn find(&self, from: &[u8], mark: PositionMark, key: &mut [u8]) -> (bool, usize) {
-        let (index, at) = self.seek_next(from, mark);
-        if index >= self.linked.count {
-            return (false, 0);
-        }
-        let slots = &*self.linked.slots;
-        let row = slots[at].row.as_slice();
-        fill_front(row, key);
-        (true, row.len())
+    fn find(&self, from: &[u8], mark: PositionMark, key: &mut [u8]) -> Option<usize> {
+        fill_found(self.next(from, mark), key)
     }
 
     fn fetch(&self, key: &[u8], bytes: &mut [u8]) -> Result<usize, Absent> {
-        if self.seek(key).found {
-            Ok(0)
-        } else {
-            Err(Absent)
+        match self.seek(key) {
+            Ok(_) => Ok(0),
+            Err(_) => Err(Absent),
         }
     }
 }
@@ -50,10 +43,9 @@ impl KeyRowFile for RowChain<'_> {
 
     fn add(&mut self, row: &[u8]) -> Result<(), RowFault> {
         check_row(row)?;
-        let seat = self.seek(row);
-        if seat.found {
+        let Err(seat) = self.seek(row) else {
             return Err(RowFault::AlreadyExists);
-        }
+        };
         if self.linked.count >= self.linked.slots.len() {
             return Err(RowFault::FileFull);
         }
@@ -62,10 +54,9 @@ impl KeyRowFile for RowChain<'_> {
     }
 
     fn drop_row(&mut self, row: &[u8]) -> Result<(), RowFault> {
-        let seat = self.seek(row);
-        if !seat.found {
+        let Ok(seat) = self.seek(row) else {
             return Err(RowFault::NotFound);
-        }
+        };
         self.linked.unlink(seat);
         Ok(())
     }

@@ -9,6 +9,7 @@ use crate::seat::Seat;
 use crate::slot::Slot;
 use storage::KeyRow;
 
+// The caller lends the slots for the file's life, and no call on a file takes heap: numbers link them, not boxes.
 #[derive(Drop)]
 pub struct LinkedSlots<'a> {
     pub(crate) slots: &'a mut [Slot],
@@ -19,6 +20,7 @@ pub struct LinkedSlots<'a> {
     pub(crate) count: usize,
 }
 
+// That what leads to a seat is one of these slots ties a seat to a chain, so neither type can say it.
 impl<'a> LinkedSlots<'a> {
     // Puts the row into the first free slot, and that slot into the seat.
     pub(crate) fn splice(&mut self, seat: Seat, row: KeyRow)

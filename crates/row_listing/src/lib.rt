@@ -1,10 +1,11 @@
 // All rows of a file in their order, by finding from row to row.
 #![tactic(auto)]
 
-ghost use Rattle.std.specs.Prelude.{◌≡◌, T, [], map, take, IfOk};
-ghost use Rattle.std.specs.Option.{unwrap_or};
+ghost use Rattle.std.specs.Prelude.{◌≡◌, T, map, take, IfOk};
+ghost use Rattle.std.specs.Option.{option_map};
 ghost use Rattle.byte_strings.specs.Texts.{text};
 ghost use Rattle.storage.specs.Pairs.{keys, next, short};
+ghost use Rattle.row_listing.specs.Keys.{key_after};
 
 use std::alloc::{AllocError, Global};
 use storage::{KeyRow, LONGEST_ROW, OrderedReading, PositionMark};
@@ -15,21 +16,31 @@ pub fn list_rows<R: OrderedReading>(heap: Global, file: &R) -> Result<Vec<KeyRow
     ensures { IfOk result (λ rows. T (short 66 (keys (R.OrderedReading.pairs file.now))) → map text rows.items ≡ keys (R.OrderedReading.pairs file.now)) }
 {
     let mut rows = Vec::new(heap);
-    let mut last = KeyRow::empty();
-    let mut mark = PositionMark::At;
+    // counted: above the front of a key that is longer than a row, that key is found again
     for _ in 0..file.count() {
-        last = next_row(file, &last, mark);
-        mark = PositionMark::Beyond;
-        rows.push(last)?;
+        let Some(row) = row_after(file, rows.last()) else {
+            break;
+        };
+        rows.push(row)?;
     }
     Ok(rows)
 }
 
-// The key that follows, cut to a row; no bytes where there is none.
-fn next_row<R: OrderedReading>(file: &R, from: &KeyRow, mark: PositionMark) -> KeyRow
-    ensures { text result ≡ take 66 (unwrap_or (next mark (text from.now) (keys (R.OrderedReading.pairs file.now))) []) }
+// The first row, or the one that follows the last so far.
+fn row_after<R: OrderedReading>(file: &R, last: Option<&KeyRow>) -> Option<KeyRow>
+    ensures { option_map text result ≡ option_map (take 66) (key_after (option_map (λ row. text row.now) last.entry) (keys (R.OrderedReading.pairs file.now))) }
+{
+    match last {
+        None => next_row(file, &[], PositionMark::At),
+        Some(row) => next_row(file, row.as_slice(), PositionMark::Beyond),
+    }
+}
+
+// The key that finding comes to, cut to a row.
+fn next_row<R: OrderedReading>(file: &R, from: &[u8], mark: PositionMark) -> Option<KeyRow>
+    ensures { option_map text result ≡ option_map (take 66) (next mark from.now (keys (R.OrderedReading.pairs file.now))) }
 {
     let mut buffer = [0; LONGEST_ROW];
-    let (_, len) = file.find(from.as_slice(), mark, &mut buffer);
-    KeyRow::front_of(&buffer[0..len.min(LONGEST_ROW)])
+    let len = file.find(from, mark, &mut buffer)?;
+    Some(KeyRow::front_of(&buffer[0..len.min(LONGEST_ROW)]))
 }

@@ -3,7 +3,6 @@
 
 mod reading;
 mod rows;
-mod seek;
 mod table;
 
 pub use table::RowTable;

@@ -2,24 +2,18 @@
 ghost use Rattle.row_table.specs.Tables.{limit_of};
 
 use crate::table::RowTable;
-use ordered_table::{insert, remove};
 use storage::{KeyRow, KeyRowFile, LONGEST_ROW, RowFault, check_row};
 
 impl KeyRowFile for RowTable<'_> {
     ghost limit = { λ t. limit_of t };
 
     fn limit(&self) -> usize {
-        self.cells.len()
+        self.rows.capacity()
     }
 
     fn add(&mut self, row: &[u8]) -> Result<(), RowFault> {
         check_row(row)?;
-        let used = self.used;
-        let cells = std::mem::take(&mut self.cells);
-        let outcome = insert(cells, used, KeyRow::front_of(row));
-        self.cells = cells;
-        outcome?;
-        self.used = used + 1;
+        self.rows.insert(KeyRow::front_of(row))?;
         Ok(())
     }
 
@@ -27,14 +21,9 @@ impl KeyRowFile for RowTable<'_> {
         if row.len() > LONGEST_ROW {
             return Err(RowFault::NotFound);
         }
-        let used = self.used;
-        let cells = std::mem::take(&mut self.cells);
-        let outcome = remove(cells, used, &KeyRow::front_of(row));
-        self.cells = cells;
-        let Some(_) = outcome else {
-            return Err(RowFault::NotFound);
-        };
-        self.used = used - 1;
+        self.rows
+            .remove(&KeyRow::front_of(row))
+            .ok_or(RowFault::NotFound)?;
         Ok(())
     }
 }

@@ -2,31 +2,30 @@
 #![tactic(auto)]
 
 mod draws;
-mod steps;
 mod tally;
+mod trial;
 
-use anyhow::anyhow;
+use anyhow::bail;
 use row_chain::{RowChain, Slot};
 use row_table::RowTable;
-use steps::compare_files;
 use storage::KeyRow;
+use trial::Trial;
 
 // Few enough that adds meet a full file.
 const ROWS: usize = 24;
 
 fn main(rt: HostRuntime) -> anyhow::Result<()> {
-    run(&rt)
-}
-
-fn run(rt: &HostRuntime) -> anyhow::Result<()> {
     let heap = rt.alloc();
     let mut cells = vec![in heap; KeyRow::empty(); ROWS]?;
     let mut slots = vec![in heap; Slot::unused(); ROWS]?;
-    let Ok(table) = RowTable::new(cells.as_mut_slice(), ROWS) else {
-        return Err(anyhow!("no space for the table"));
+    // no map_err: its closure would take the memory back, a `&mut` slice, which the borrow checker does not cover
+    let Ok(table) = RowTable::new(&mut cells, ROWS) else {
+        bail!("no space for the table");
     };
-    let Ok(chain) = RowChain::new(slots.as_mut_slice(), ROWS) else {
-        return Err(anyhow!("no space for the chain"));
+    let Ok(chain) = RowChain::new(&mut slots, ROWS) else {
+        bail!("no space for the chain");
     };
-    compare_files(rt, table, chain)
+    let mut trial = Trial::new(table, chain);
+    trial.run();
+    trial.print(&rt)
 }

@@ -1,69 +1,63 @@
 // How often each answer came.
-use std::io;
+use std::fmt;
 use storage::RowFault;
 
-#[derive(Clone, Copy)]
+#[derive(Clone, Copy, Default)]
 pub(crate) struct Tally {
-    pub(crate) alike: u32,
-    pub(crate) unlike: u32,
-    pub(crate) accepted: u32,
-    pub(crate) illegal: u32,
-    pub(crate) present: u32,
-    pub(crate) full: u32,
-    pub(crate) absent: u32,
-    pub(crate) found: u32,
-    pub(crate) none: u32,
+    accepted: u32,
+    illegal: u32,
+    present: u32,
+    full: u32,
+    absent: u32,
+    read: Split,
+    compared: Split,
+}
+
+// How often the answer was yes, and how often no.
+#[derive(Clone, Copy, Default)]
+struct Split {
+    yes: u32,
+    no: u32,
 }
 
 impl Tally {
-    pub(crate) fn new() -> Tally {
-        Tally {
-            alike: 0,
-            unlike: 0,
-            accepted: 0,
-            illegal: 0,
-            present: 0,
-            full: 0,
-            absent: 0,
-            found: 0,
-            none: 0,
-        }
-    }
-
-    pub(crate) fn note_like(&mut self, alike: bool) {
-        if alike {
-            self.alike = self.alike.saturating_add(1);
-        } else {
-            self.unlike = self.unlike.saturating_add(1);
-        }
-    }
-
     pub(crate) fn note_change(&mut self, answer: Result<(), RowFault>) {
-        match answer {
-            Ok(()) => self.accepted = self.accepted.saturating_add(1),
-            Err(RowFault::IllegalCount) => self.illegal = self.illegal.saturating_add(1),
-            Err(RowFault::AlreadyExists) => self.present = self.present.saturating_add(1),
-            Err(RowFault::FileFull) => self.full = self.full.saturating_add(1),
-            Err(RowFault::NotFound) => self.absent = self.absent.saturating_add(1),
-        }
+        count(match answer {
+            Ok(()) => &mut self.accepted,
+            Err(RowFault::IllegalCount) => &mut self.illegal,
+            Err(RowFault::AlreadyExists) => &mut self.present,
+            Err(RowFault::FileFull) => &mut self.full,
+            Err(RowFault::NotFound) => &mut self.absent,
+        });
     }
 
     pub(crate) fn note_reading(&mut self, there: bool) {
-        if there {
-            self.found = self.found.saturating_add(1);
-        } else {
-            self.none = self.none.saturating_add(1);
-        }
+        self.read.note(there);
     }
 
-    pub(crate) fn print(&self, rt: &HostRuntime) -> io::Result<()> {
-        let t = *self;
-        println!(rt; "adds and drops accepted: {}", t.accepted)?;
-        println!(rt;
+    pub(crate) fn note_like(&mut self, alike: bool) {
+        self.compared.note(alike);
+    }
+}
+
+impl Split {
+    fn note(&mut self, yes: bool) {
+        count(if yes { &mut self.yes } else { &mut self.no });
+    }
+}
+
+fn count(times: &mut u32) {
+    *times = times.saturating_add(1);
+}
+
+impl fmt::Display for Tally {
+    fn fmt<W: fmt::Write>(&self, f: &mut fmt::Formatter<W>) -> fmt::Result {
+        writeln!(f, "adds and drops accepted: {}", self.accepted)?;
+        writeln!(f,
             "refused: illegal length {}, present {}, full {}, absent {}",
-            t.illegal, t.present, t.full, t.absent
+            self.illegal, self.present, self.full, self.absent
         )?;
-        println!(rt; "finds and fetches: there {}, none {}", t.found, t.none)?;
-        println!(rt; "answered alike: {}, unlike: {}", t.alike, t.unlike)
+        writeln!(f, "finds and fetches: there {}, none {}", self.read.yes, self.read.no)?;
+        write!(f, "answered alike: {}, unlike: {}", self.compared.yes, self.compared.no)
     }
 }

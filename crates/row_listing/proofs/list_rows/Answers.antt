@@ -1,33 +1,33 @@
-use Rattle.std.proofs.Common.{◌<◌, ◌≤◌, map, length, vec_items, ap, ◌∙◌, arith}
+use Rattle.std.proofs.Common.{◌<◌, ◌≤◌, length, take, vec_items, ap, ◌∙◌, arith}
+use Rattle.std.specs.Option.{option_map}
 use Rattle.std.proofs.lemmas.List.{length-map, take_all}
+use Rattle.std.proofs.lemmas.Option.{none-some, same_Some}
 use Rattle.byte_strings.specs.Bytes.{Bytes}
-use Rattle.byte_strings.specs.Texts.{text}
-use Rattle.storage.specs.declared.mark.PositionMark.TheVariants.{At, Beyond}
-use Rattle.storage.specs.Pairs.{keys, next}
-use Rattle.row_listing.proofs.Steps.{first_key, next-key, listed_more}
+use Rattle.storage.specs.Pairs.{keys}
+use Rattle.row_listing.proofs.Steps.{follows, listed_more}
+use Rattle.row_listing.proofs.list_rows.Goals.{else-loop-test, then-loop-test+in_default}
 use Rattle.row_listing.proofs.list_rows.Goals as goal
-
-pub loop-init : goal.loop-init
-loop-init g c = λ h.
-    let ks = keys (g.R.OrderedReading.pairs c.args.file.now) in
-    (ap (map text) c.new-rows.ensures.items, ap (λ x. next At x ks) c.empty-last.ensures ∙ first_key ks)
 
 pub loop-preserved : goal.loop-preserved
 loop-preserved g c = λ h.
     let ps = g.R.OrderedReading.pairs c.args.file.now in
-    let ks = keys ps in
-    let i = c.loop.counter in
     let n = length-map ps (λ (p : Bytes × Bytes). p.0) in
-    let l : i < length ks = omega arith in
-    let inv = c.loop.invariant h in
-    let m = listed_more ks (vec_items c.loop.rows) c.next_row-last.result i (next c.loop.mark (text c.loop.last) ks) h l inv.0 inv.1 c.next_row-last.ensures in (
-      ap (map text) c.in_ok-push.ensures.items ∙ m.0,
-      ap (λ x. next Beyond x ks) m.1 ∙ next-key ks i (g.R.OrderedReading.ascending c.args.file.now) l,
-    )
+    let l : c.loop.counter < length (keys ps) = omega arith in
+    let listed = c.loop.invariant h in
+    let f = follows (keys ps) (vec_items c.loop.rows) c.loop.counter c.deref.result.now c.last.result (g.R.OrderedReading.ascending c.args.file.now) listed l c.deref.ensures.value c.last.ensures.value in
+    listed_more (keys ps) (vec_items c.loop.rows) c.loop.counter h listed l c.in-Some.row (vec_items c.push.new.self)
+    (same_Some _ _ (c.in-Some.ensures ∙ ap (option_map (take 66)) f))
+    c.in_ok-push.ensures.items
 
 pub returns : goal.returns
 returns g c = λ h.
     let ps = g.R.OrderedReading.pairs c.args.file.now in
     let n = length-map ps (λ (p : Bytes × Bytes). p.0) in
-    let l : length (keys ps) ≤ c.loop.counter = omega arith in
-    (c.loop.invariant h).0 ∙ take_all c.loop.counter (keys ps) l
+    let listed = c.loop.invariant h in
+    elim c.loop-test.branch [
+      | else-loop-test w ↦ let l : length (keys ps) ≤ c.loop.counter = let t = w.loop-test.false in omega arith in listed ∙ take_all c.loop.counter (keys ps) l
+      | then-loop-test+in_default w ↦
+          let l : c.loop.counter < length (keys ps) = let t = w.loop-test.true in omega arith in
+          let f = follows (keys ps) (vec_items c.loop.rows) c.loop.counter w.deref.result.now w.last.result (g.R.OrderedReading.ascending c.args.file.now) listed l w.deref.ensures.value w.last.ensures.value in
+          absurd (none-some _ (w.in_default.ensures ∙ ap (option_map (take 66)) f))
+    ]

@@ -1,8 +1,8 @@
-use Rattle.std.proofs.Common.{◌<◌, ◌≤◌, length, sym, refl, ap, ◌∙◌, subst, arith}
+use Rattle.std.proofs.Common.{◌<◌, ◌≤◌, length, sym, ap, ◌∙◌, subst, arith}
 use Rattle.std.proofs.lemmas.List.{take_all}
 use Rattle.byte_strings.specs.Bytes.{order}
 use Rattle.byte_strings.proofs.TotalOrder.{total_order}
-use Rattle.ordered_table.specs.Table.{Ascending, holds}
+use Rattle.ordered_table.specs.Table.{Ascending}
 use Rattle.ordered_table.proofs.Edits.{ascending_put}
 use Rattle.storage.specs.Rows.{bare}
 use Rattle.storage.proofs.Bare.{row_passed, add_present, add_full, add_done, add_leaves}
@@ -12,37 +12,25 @@ use Rattle.row_chain.proofs.Seats.{length-rows, before_within}
 use Rattle.row_chain.proofs.Splices.{index_le, fresh_within, spliced_in}
 use Rattle.row_chain.proofs.file.RowChainKeyRowFile.add.Goals as goal
 
-pub returns-then-seat : goal.returns-then-seat
-returns-then-seat c =
+pub returns-in_default-clause-value : goal.returns-in_default-clause-value
+returns-in_default-clause-value c =
     let chain = c.args.self.now.linked in
     let row = c.args.row.now in
-    let legal = (row_passed row tt c.in_ok-check_row.ensures).0 in
-    let held = sym {b = holds order (rows chain) row} c.seek-seat.ensures.found ∙ c.if-seat.true in
-    record {
-      value = sym (add_present (rows chain) row (length chain.slots.now) legal held);
-      after = refl;
-      same = refl;
-    }
+    sym (add_present (rows chain) row (length chain.slots.now) (row_passed row tt c.in_ok-check_row.ensures).0 (sym c.in_default.ensures.found))
 
-pub returns-then-self : goal.returns-then-self
-returns-then-self c =
+pub returns-then-self-clause-value : goal.returns-then-self-clause-value
+returns-then-self-clause-value c =
     let chain = c.args.self.now.linked in
     let row = c.args.row.now in
-    let legal = (row_passed row tt c.in_ok-check_row.ensures).0 in
-    let absent = sym {b = holds order (rows chain) row} c.seek-seat.ensures.found ∙ c.if-seat.false in
     let full : length chain.slots.now ≤ length (rows chain) = let n = length-rows chain in omega arith in
-    record {
-      value = sym (add_full (rows chain) row (length chain.slots.now) legal absent full);
-      after = refl;
-      same = refl;
-    }
+    sym (add_full (rows chain) row (length chain.slots.now) (row_passed row tt c.in_ok-check_row.ensures).0 (sym c.in-Err.ensures.found) full)
 
 pub splice-requires : goal.splice-requires
 splice-requires c =
     let self = c.args.self.now in
     let row = c.args.row.now in
-    let seat = c.seek-seat.result in
-    let seated = c.seek-seat.ensures in
+    let seat = c.in-Err.seat in
+    let seated = c.in-Err.ensures.seat in
     let room = c.if-self.false in
     record {
       room = room;
@@ -55,26 +43,25 @@ invariant_of-self c =
     let self = c.args.self.now in
     let chain = self.linked in
     let row = c.args.row.now in
-    let seated = c.seek-seat.ensures in
+    let here = c.in-Err.ensures in
     let after = c.splice.new.self in
     let whole_row = c.front_of.ensures ∙ take_all 66 row (row_passed row tt c.in_ok-check_row.ensures).1 in
-    let spliced = subst (λ bytes. Spliced chain c.seek-seat.result bytes after) whole_row c.splice.ensures in
-    let new = spliced_in chain row c.seek-seat.result self.whole c.if-self.false seated after spliced in
-    let absent = sym seated.found ∙ c.if-seat.false in
+    let spliced = subst (λ bytes. Spliced chain c.in-Err.seat bytes after) whole_row c.splice.ensures in
+    let new = spliced_in chain row c.in-Err.seat self.whole c.if-self.false here.seat after spliced in
     let within : after.count ≤ length after.slots.now = let n = new.0 in let e = spliced.count_after in omega arith in
-    record { within = within; whole = new.1; ascending = subst (Ascending order) (sym new.2) (ascending_put total_order (rows chain) row self.ascending absent) }
+    record { within = within; whole = new.1; ascending = subst (Ascending order) (sym new.2) (ascending_put total_order (rows chain) row self.ascending (sym here.found)) }
 
 pub returns : goal.returns
 returns c =
     let self = c.args.self.now in
     let chain = self.linked in
     let row = c.args.row.now in
-    let seated = c.seek-seat.ensures in
+    let here = c.in-Err.ensures in
+    let absent = sym here.found in
     let after = c.splice.new.self in
     let legal = row_passed row tt c.in_ok-check_row.ensures in
-    let spliced = subst (λ bytes. Spliced chain c.seek-seat.result bytes after) (c.front_of.ensures ∙ take_all 66 row legal.1) c.splice.ensures in
-    let new = spliced_in chain row c.seek-seat.result self.whole c.if-self.false seated after spliced in
-    let absent = sym seated.found ∙ c.if-seat.false in
+    let spliced = subst (λ bytes. Spliced chain c.in-Err.seat bytes after) (c.front_of.ensures ∙ take_all 66 row legal.1) c.splice.ensures in
+    let new = spliced_in chain row c.in-Err.seat self.whole c.if-self.false here.seat after spliced in
     let room : length (rows chain) < length chain.slots.now = let n = length-rows chain in omega arith in
     record {
       value = sym (add_done (rows chain) row (length chain.slots.now) legal.0 absent room);

@@ -1,5 +1,4 @@
-use Rattle.std.proofs.Common.{◌≤◌, length, sym, refl, ap, ◌∙◌, subst, arith}
-use Rattle.std.proofs.lemmas.Bool.{not-true, not-false}
+use Rattle.std.proofs.Common.{◌≤◌, length, sym, ap, ◌∙◌, subst, arith}
 use Rattle.byte_strings.specs.Bytes.{order}
 use Rattle.ordered_table.specs.Table.{Ascending, place}
 use Rattle.ordered_table.proofs.Edits.{ascending_cut}
@@ -10,23 +9,20 @@ use Rattle.row_chain.proofs.Seats.{before_within}
 use Rattle.row_chain.proofs.Unlinks.{index_lt, seat_within, taken_out}
 use Rattle.row_chain.proofs.file.RowChainKeyRowFile.drop_row.Goals as goal
 
-pub returns-then-not-seat : goal.returns-then-not-seat
-returns-then-not-seat c =
-    let absent = sym c.seek-seat.ensures.found ∙ not-true c.seek-seat.result.found c.if-not-seat.true in
-    record { value = sym (drop_absent (rows c.args.self.now.linked) c.args.row.now absent); after = refl; same = refl }
+pub returns-in_default-clause-value : goal.returns-in_default-clause-value
+returns-in_default-clause-value c = sym (drop_absent (rows c.args.self.now.linked) c.args.row.now (sym c.in_default.ensures.found))
 
 pub unlink-requires : goal.unlink-requires
 unlink-requires c =
     let self = c.args.self.now in
     let row = c.args.row.now in
-    let seat = c.seek-seat.result in
-    let seated = c.seek-seat.ensures in
-    let held = sym seated.found ∙ not-false seat.found c.if-not-seat.false in
-    let l = index_lt self.linked row seat self.whole seated held in
+    let seat = c.in-Ok.seat in
+    let here = c.in-Ok.ensures in
+    let l = index_lt self.linked row seat self.whole here.seat (sym here.found) in
     record {
       some = omega arith;
-      at = seat_within self.linked row seat self.whole seated held;
-      before = before_within self.linked self.whole seat.index seat.before seated.before (omega arith);
+      at = seat_within self.linked row seat self.whole here.seat (sym here.found);
+      before = before_within self.linked self.whole seat.index seat.before here.seat.before (omega arith);
     }
 
 pub invariant_of-self : goal.invariant_of-self
@@ -34,10 +30,9 @@ invariant_of-self c =
     let self = c.args.self.now in
     let chain = self.linked in
     let row = c.args.row.now in
-    let seated = c.seek-seat.ensures in
+    let here = c.in-Ok.ensures in
     let after = c.unlink.new.self in
-    let held = sym seated.found ∙ not-false c.seek-seat.result.found c.if-not-seat.false in
-    let new = taken_out chain row c.seek-seat.result self.whole seated held self.within after c.unlink.ensures in
+    let new = taken_out chain row c.in-Ok.seat self.whole here.seat (sym here.found) self.within after c.unlink.ensures in
     let within : after.count ≤ length after.slots.now = let n = new.0 in let e = c.unlink.ensures.count_after in let w = self.within in omega arith in
     record { within = within; whole = new.1; ascending = subst (Ascending order) (sym new.2) (ascending_cut order (rows chain) (place order (rows chain) row) self.ascending) }
 
@@ -46,9 +41,9 @@ returns c =
     let self = c.args.self.now in
     let chain = self.linked in
     let row = c.args.row.now in
-    let seated = c.seek-seat.ensures in
-    let held = sym seated.found ∙ not-false c.seek-seat.result.found c.if-not-seat.false in
-    let new = taken_out chain row c.seek-seat.result self.whole seated held self.within c.unlink.new.self c.unlink.ensures in
+    let here = c.in-Ok.ensures in
+    let held = sym here.found in
+    let new = taken_out chain row c.in-Ok.seat self.whole here.seat held self.within c.unlink.new.self c.unlink.ensures in
     record {
       value = sym (drop_done (rows chain) row held);
       after = ap bare new.2 ∙ drop_leaves (rows chain) row self.ascending held;
