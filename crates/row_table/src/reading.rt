@@ -18,7 +18,7 @@ impl OrderedReading for RowTable<'_> {
         0
     }
 
-    fn find(&self, from: &[u8], mark: PositionMark, key: &mut [u8]) -> Option<usize> {
+    fn find(&self, from: &[u8], mark: PositionMark, key: &mut [u8]) -> (bool, usize) {
         fill_found(self.next(from, mark), key)
     }
 
