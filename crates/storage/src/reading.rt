@@ -11,9 +11,6 @@ pub trait OrderedReading {
     // What the file holds.
     ghost pairs: { Self → List (Bytes × Bytes) };
 
-    // Each file shows that its keys ascend.
-    ghost ascending: { (s : Self) → Ascending (keys (pairs s)) };
-
     // The number of pairs.
     fn count(&self) -> usize
         ensures { result ≡ length (pairs self.now) };
@@ -33,4 +30,7 @@ pub trait OrderedReading {
     fn fetch(&self, key: &[u8], bytes: &mut [u8]) -> Result<usize, Absent>
         ensures value { result ≡ fetched (under key.now (pairs self.now)) (length bytes.old) }
         ensures after { bytes.new ≡ filled (under key.now (pairs self.now)) bytes.old };
+
+    // Each file shows that its keys ascend.
+    ghost ascending: { (s : Self) → Ascending (keys (pairs s)) };
 }

@@ -14,7 +14,7 @@ loop-preserved g c = λ h.
     let n = length-map ps (λ (p : Bytes × Bytes). p.0) in
     let l : c.loop.counter < length (keys ps) = omega arith in
     let listed = c.loop.invariant h in
-    let f = follows (keys ps) (vec_items c.loop.rows) c.loop.counter c.deref.result.now c.last.result (g.R.OrderedReading.ascending c.args.file.now) listed l c.deref.ensures.value c.last.ensures.value in
+    let f = follows (keys ps) (vec_items c.loop.rows) c.loop.counter c.deref.result.now c.last.result (g.met.R.OrderedReading.ascending c.args.file.now) listed l c.deref.ensures.value c.last.ensures.value in
     listed_more (keys ps) (vec_items c.loop.rows) c.loop.counter h listed l c.in-Some.row (vec_items c.push.new.self)
     (same_Some _ _ (c.in-Some.ensures ∙ ap (option_map (take 66)) f))
     c.in_ok-push.ensures.items
@@ -28,6 +28,6 @@ returns g c = λ h.
       | else-loop-test w ↦ let l : length (keys ps) ≤ c.loop.counter = let t = w.loop-test.false in omega arith in listed ∙ take_all c.loop.counter (keys ps) l
       | then-loop-test+in_default w ↦
           let l : c.loop.counter < length (keys ps) = let t = w.loop-test.true in omega arith in
-          let f = follows (keys ps) (vec_items c.loop.rows) c.loop.counter w.deref.result.now w.last.result (g.R.OrderedReading.ascending c.args.file.now) listed l w.deref.ensures.value w.last.ensures.value in
+          let f = follows (keys ps) (vec_items c.loop.rows) c.loop.counter w.deref.result.now w.last.result (g.met.R.OrderedReading.ascending c.args.file.now) listed l w.deref.ensures.value w.last.ensures.value in
           absurd (none-some _ (w.in_default.ensures ∙ ap (option_map (take 66)) f))
     ]
