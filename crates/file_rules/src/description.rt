@@ -8,14 +8,14 @@ use storage::FileKind;
 pub type KeySpecifier = [u8; 2];
 
 // Bytes at a fixed place in a record.
-#[derive(Clone, Copy)]
+#[derive(Clone, Copy, PartialEq, Eq, Debug)]
 pub struct KeyField {
     pub offset: usize,
     pub len: usize,
 }
 
 // A field that gives a further path to the records.
-#[derive(Clone, Copy)]
+#[derive(Clone, Copy, PartialEq, Eq, Debug)]
 pub struct AlternateKey {
     pub specifier: KeySpecifier,
     pub field: KeyField,
@@ -27,14 +27,14 @@ pub struct AlternateKey {
 
 // What a file goes by. The key is a field of the record in a key-sequenced file alone; elsewhere it is the record
 // number in four bytes.
-#[derive(Clone, Copy)]
+#[derive(Clone, Copy, PartialEq, Eq, Debug)]
 pub enum Organization {
     Relative,
     EntrySequenced,
     KeySequenced(KeyField),
 }
 
-#[derive(Clone, Copy)]
+#[derive(Clone, Copy, PartialEq, Eq, Debug)]
 pub struct FileDescription<'a> {
     pub organization: Organization,
     pub max_record_len: usize,
