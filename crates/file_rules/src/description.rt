@@ -2,7 +2,7 @@
 ghost use Rattle.std.specs.Prelude.{◌≡◌};
 ghost use Rattle.file_rules.specs.Descriptions.{kind_of, key_length};
 
-use storage::FileKind;
+use storage::{FileKind, NUMBER_LEN};
 
 // The two bytes that name an alternate key.
 pub type KeySpecifier = [u8; 2];
@@ -61,7 +61,7 @@ impl Organization {
         ensures { result ≡ key_length self }
     {
         match self {
-            Organization::Relative | Organization::EntrySequenced => 4,
+            Organization::Relative | Organization::EntrySequenced => NUMBER_LEN,
             Organization::KeySequenced(field) => field.len,
         }
     }

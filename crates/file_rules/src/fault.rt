@@ -56,7 +56,7 @@ impl CallFault {
         }
     }
 
-    // 1 is the call, 2 the primary file, 3 the key rows.
+    // 1 is the call, 2 the primary file, 3 the key rows: an enum of these would only repeat what the variants say.
     pub fn layer(self) -> u8
         ensures { result ≡ layer_of self }
     {
@@ -67,7 +67,7 @@ impl CallFault {
         }
     }
 
-    // The path whose unique value clashes, and 0 for every other fault.
+    // The path whose unique value clashes, and 0 for every other fault: an answer has a number here in any case.
     pub fn key(self) -> u8
         ensures { result ≡ key_of self }
     {
