@@ -1,5 +1,6 @@
 -- The fresh key build is what it says, and a record that comes, goes or changes alters it by its own rows. Assumes nothing.
 use Rattle.std.proofs.Common.{◌≡◌, ◌-◌, Bool, true, false, not, ◌&&◌, ◌||◌, ◌⊎◌, List, [], length, drop, is_some, Some, None, Option, sym, refl, ap, ◌∙◌, inl, inr, ⊎_elim, true≢false, arith}
+use Rattle.std.proofs.Math.Bool.{and-true}
 use Rattle.std.specs.List.{AllByRecursion}
 use Rattle.byte_strings.specs.Bytes.{Bytes, same}
 use Rattle.byte_strings.proofs.TotalOrder.{is_same, same_cases}
@@ -104,10 +105,6 @@ module _ (d : Description) (κ : Bytes) (old new : Option Bytes) (ps qs : List (
       moved : (ps qs : List (Bytes × Bytes)) (w : OfRecord ks ps x) → under w.key qs ≡ under w.key ps → OfRecord ks qs x
       moved ps qs w e = record { key = w.key; bytes = w.bytes; present = e ∙ w.present; one_of_its = w.one_of_its }
 
-and_true : (b : Bool) → (b && true) ≡ b
-and_true true = refl
-and_true false = refl
-
 pub build_law : (d : Description) → BuildLaw d
 build_law d =
     record {
@@ -116,7 +113,7 @@ build_law d =
       places =
           λ κ r ps like none x.
           rows_change d κ None (Some r) ps (placed κ r ps) like (placed_ascending κ r ps like.ordered none) none (placed_here κ r ps none) (λ η o. placed_elsewhere κ η o r ps) x
-          ∙ ap (λ b. has x (record_rows d.alternates κ r) || b) (and_true (has x (fresh_rows d ps)));
+          ∙ ap (λ b. has x (record_rows d.alternates κ r) || b) (and-true (has x (fresh_rows d ps)));
       removes =
           λ κ r ps like e x.
           rows_change d κ (Some r) None ps (without κ ps) like (removed_ascending κ ps like.ordered) e (removed_here κ ps) (λ η o. removed_elsewhere κ η o ps) x;

@@ -1,5 +1,6 @@
 -- The entries, keys and records that an accepted call makes are as long as they should be. Assumes nothing.
 use Rattle.std.proofs.Common.{◌≡◌, ℕ, zero, suc, ◌+◌, ◌-◌, ◌≤◌, min, Bool, true, false, cond, not, ◌&&◌, eqb, ltb, leb, List, [], ◌∷◌, ◌++◌, length, get_or, take, drop, Some, None, Option, refl, ap, ◌∙◌, subst, true≢false, arith}
+use Rattle.std.proofs.lemmas.Option.{none-some, same_Some}
 use Rattle.std.proofs.lemmas.List.{length-take, length-drop, length-append}
 use Rattle.std.proofs.lemmas.Bool.{or_parts, eqb-true, ltb-false, not-false}
 use Rattle.std.specs.Option.{option_map}
@@ -21,18 +22,17 @@ use Rattle.file_rules.specs.Modes.{positioning_of}
 use Rattle.file_rules.specs.Paths.{made_of, value, alternate_string, path_string}
 use Rattle.file_rules.specs.Steps.{named_key, opened_by, positioned}
 use Rattle.file_laws.specs.Sound.{IfAny, EntryFits}
-use Rattle.file_laws.proofs.Members.{never_some, some_same}
 
 -- ---- entries
 
 pub entry_fits : (d : Description) (es : List (Option Entry)) (n : ℕ) (o : Entry) → AllByRecursion (IfAny (EntryFits d)) es → numbered es n ≡ Some o → EntryFits d o
 unfolding numbered
-entry_fits d es zero o h e = absurd (never_some o e)
+entry_fits d es zero o h e = absurd (none-some o e)
 entry_fits d es (suc n) o h e = at es n h e
   where
     at : (es : List (Option Entry)) (n : ℕ) → AllByRecursion (IfAny (EntryFits d)) es → get_or es n None ≡ Some o → EntryFits d o
-    at [] zero h e = absurd (never_some o e)
-    at [] (suc n) h e = absurd (never_some o e)
+    at [] zero h e = absurd (none-some o e)
+    at [] (suc n) h e = absurd (none-some o e)
     at (x ∷ es) zero h e = subst (IfAny (EntryFits d)) e h.0
     at (x ∷ es) (suc n) h e = at es n h.1 e
 
@@ -74,24 +74,24 @@ value_length k r v h = go (leb (end_of k.field) (length r) && not (made_of k.nul
   where
     go : (b : Bool) → cond b (Some (cut k.field r)) None ≡ Some v → length v ≤ k.field.len
     go true e =
-        let s = some_same (cut k.field r) v e in
+        let s = same_Some (cut k.field r) v e in
         let l = length-take k.field.len (drop k.field.offset r) in
         subst (λ z. length z ≤ k.field.len) s (omega arith)
-    go false e = absurd (never_some v e)
+    go false e = absurd (none-some v e)
 
 pub string_fits : (d : Description) (path : ℕ) (κ r x : Bytes) → length κ ≡ key_len d → path_string d path κ r ≡ Some x → length x ≤ string_length d path
 unfolding path_string
-string_fits d zero κ r x l h = let e = ap length (some_same κ x h) in omega arith
+string_fits d zero κ r x l h = let e = ap length (same_Some κ x h) in omega arith
 string_fits d (suc i) κ r x l h = go (nth_key d.alternates i) h
   where
     go : (o : Option AlternateKey) → alternate_string o κ r ≡ Some x → length x ≤ (elim o as (λ _. ℕ) [ None ↦ 0 | Some k ↦ k.field.len ]) + key_len d
-    go None e = absurd (never_some x e)
+    go None e = absurd (none-some x e)
     go (Some k) e = at (value k r) refl e
       where
         at : (o : Option Bytes) → value k r ≡ o → option_map (λ v. v ++ κ) o ≡ Some x → length x ≤ k.field.len + key_len d
-        at None q e = absurd (never_some x e)
+        at None q e = absurd (none-some x e)
         at (Some v) q e =
-            let s : v ++ κ ≡ x = some_same (v ++ κ) x e in
+            let s : v ++ κ ≡ x = same_Some (v ++ κ) x e in
             let m = value_length k r v q in
             let n = length-append v κ in
             subst (λ z. length z ≤ k.field.len + key_len d) s (omega arith)

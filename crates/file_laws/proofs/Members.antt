@@ -1,5 +1,6 @@
 -- Members of a list: pairs and what stands under their keys, and what a filter keeps. Assumes nothing.
 use Rattle.std.proofs.Common.{◌≡◌, Bool, true, false, cond, T, ◌⊎◌, List, [], ◌∷◌, is_some, Some, None, filter, Option, sym, refl, ap, ◌∙◌, subst, inl, inr, true≢false}
+use Rattle.std.proofs.lemmas.Option.{same_Some, none-some}
 use Rattle.std.specs.Ordering.{is_lt}
 use Rattle.std.specs.List.{AllByRecursion}
 use Rattle.ordered_table.specs.Table.{is_strictly_sorted_by}
@@ -11,12 +12,6 @@ use Rattle.storage.specs.Pairs.{Ascending, keys, under}
 abbrev pub In : {A : Type 0} → A → List A → Type 0
 In x [] = ⊥
 In x (y ∷ ys) = (y ≡ x) ⊎ In x ys
-
-pub some_same : {A : Type 0} (x y : A) → Some x ≡ Some y → x ≡ y
-some_same x y h = cc
-
-pub never_some : {A : Type 0} (x : A) → None ≡ Some x → ⊥
-never_some x h = true≢false (sym (ap is_some h))
 
 pub some_of : {A : Type 0} (o : Option A) → is_some o ≡ true → (x : A) × (o ≡ Some x)
 some_of None h = absurd (true≢false (sym h))
@@ -31,15 +26,20 @@ all_in P x [] h i = absurd i
 all_in P x (y ∷ ys) h (inl e) = subst P e h.0
 all_in P x (y ∷ ys) h (inr i) = all_in P x ys h.1 i
 
+-- `All-weaker` of std, for the fact by recursion
+pub all_weaker : {A : Type 0} (P Q : A → Type 0) → ((x : A) → P x → Q x) → (l : List A) → AllByRecursion P l → AllByRecursion Q l
+all_weaker P Q f [] h = tt
+all_weaker P Q f (x ∷ xs) h = (f x h.0, all_weaker P Q f xs h.1)
+
 -- ---- pairs under keys
 
 pub in_from_under : {A : Type 0} (κ : Bytes) (a : A) (ps : List (Bytes × A)) → under κ ps ≡ Some a → In (κ, a) ps
 unfolding under
-in_from_under κ a [] h = absurd (never_some a h)
+in_from_under κ a [] h = absurd (none-some a h)
 in_from_under κ a (p ∷ ps) h = go (same p.0 κ) refl h (in_from_under κ a ps)
   where
     go : (b : Bool) → same p.0 κ ≡ b → cond b (Some p.1) (under κ ps) ≡ Some a → (under κ ps ≡ Some a → In (κ, a) ps) → In (κ, a) (p ∷ ps)
-    go true e q k = inl (λ i. (same_is p.0 κ e i, some_same p.1 a q i))
+    go true e q k = inl (λ i. (same_is p.0 κ e i, same_Some p.1 a q i))
     go false e q k = inr (k q)
 
 -- what follows a key in an ascending list stands above it

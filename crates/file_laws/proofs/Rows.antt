@@ -1,5 +1,6 @@
 -- The rows of a record, and of all records present. Assumes nothing.
 use Rattle.std.proofs.Common.{◌≡◌, ℕ, zero, suc, ◌-◌, true, List, [], ◌∷◌, ◌++◌, length, drop, Some, None, Option, sym, refl, ap, ◌∙◌, subst, inl, inr, ⊎_elim, true≢false, arith}
+use Rattle.std.proofs.lemmas.Option.{none-some}
 use Rattle.std.specs.Option.{option_map}
 use Rattle.std.proofs.lemmas.List.{append_assoc, length-append, drop_at}
 use Rattle.std.proofs.lemmas.Bool.{or_cases, or_left, or_right}
@@ -9,7 +10,7 @@ use Rattle.storage.specs.Pairs.{Ascending, keys, under}
 use Rattle.file_rules.specs.declared.description.AlternateKey.{AlternateKey}
 use Rattle.file_rules.specs.Descriptions.{nth_key}
 use Rattle.file_rules.specs.Paths.{value, row, and_then, record_rows, all_rows}
-use Rattle.file_laws.proofs.Members.{In, never_some, in_from_under, under-from-in}
+use Rattle.file_laws.proofs.Members.{In, in_from_under, under-from-in}
 use Rattle.file_laws.proofs.Sorting.{has_cases, has-append, has-itself}
 
 -- ---- one record
@@ -31,7 +32,7 @@ module _ (κ r x : Bytes) where
       go (Some y) e h i = ⊎_elim (λ s. (zero, k, refl, e ∙ ap Some s)) (λ t. later (i t)) (has_cases y x (record_rows ks κ r) h)
 
   pub row_on_path : (ks : List AlternateKey) (i : ℕ) (k : AlternateKey) → nth_key ks i ≡ Some k → row k κ r ≡ Some x → has x (record_rows ks κ r) ≡ true
-  row_on_path [] i k n e = absurd (never_some k n)
+  row_on_path [] i k n e = absurd (none-some k n)
   row_on_path (j ∷ ks) zero k n e =
       let s : j ≡ k = cc in
       subst (λ o. has x (and_then o (record_rows ks κ r)) ≡ true) (sym (ap (λ l. row l κ r) s ∙ e)) (has-itself x (record_rows ks κ r))
@@ -41,7 +42,7 @@ module _ (κ r x : Bytes) where
       go None h = h
       go (Some y) h = or_right (same y x) (has x (record_rows ks κ r)) h
 
-drop-front : (front κ : Bytes) → drop (length (front ++ κ) - length κ) (front ++ κ) ≡ κ
+pub drop-front : (front κ : Bytes) → drop (length (front ++ κ) - length κ) (front ++ κ) ≡ κ
 drop-front front κ = drop_at front κ _ (let l = length-append front κ in omega arith)
 
 -- a row ends with its primary key
@@ -49,7 +50,7 @@ pub row_ends : (ks : List AlternateKey) (κ r x : Bytes) → has x (record_rows 
 row_ends ks κ r x h = let w = path_of_row κ r x ks h in go w.1.specifier (value w.1 r) w.3
   where
     go : (s : Bytes) (o : Option Bytes) → option_map (λ v. s ++ (v ++ κ)) o ≡ Some x → drop (length x - length κ) x ≡ κ
-    go s None e = absurd (never_some x e)
+    go s None e = absurd (none-some x e)
     go s (Some v) e =
         let i : s ++ (v ++ κ) ≡ x = cc in
         subst (λ z. drop (length z - length κ) z ≡ κ) (append_assoc s v κ ∙ i) (drop-front (s ++ v) κ)

@@ -3,7 +3,6 @@ use Rattle.std.proofs.Common.{◌≡◌, Bool, true, false, cond, ◌||◌, T, �
 use Rattle.std.specs.Ordering.{is_lt}
 use Rattle.std.specs.List.Sorted.{IsStrictlySortedBy}
 use Rattle.std.specs.List.{AllByRecursion, list_all}
-use Rattle.std.proofs.ByRecursion.{All-weaker}
 use Rattle.std.proofs.lemmas.Bool.{or_cases}
 use Rattle.byte_strings.specs.Bytes.{Bytes, order, below, same}
 use Rattle.byte_strings.proofs.TotalOrder.{same_is, is_same, same-flip, order_trans, below_less, less_below, below_neither, below_not_same}
@@ -12,6 +11,7 @@ use Rattle.ordered_table.proofs.Edits.{both, left, right, is_less, less_test}
 use Rattle.storage.specs.Laws.{has}
 use Rattle.storage.specs.Pairs.{Ascending}
 use Rattle.file_rules.specs.Paths.{sorted_in, sorted}
+use Rattle.file_laws.proofs.Members.{all_weaker}
 
 -- ---- has
 
@@ -71,7 +71,7 @@ before_sorted_in k x [] h a = (h, tt)
 before_sorted_in k x (y ∷ ys) h a = let i = before_sorted_in k x ys h a.1 in grind arith
 
 earlier : (x y : Bytes) (zs : List Bytes) → order x y ≡ Less → Before y zs → Before x zs
-earlier x y zs h a = All-weaker (λ z. order y z ≡ Less) (λ z. order x z ≡ Less) (λ z. order_trans x y z h) zs a
+earlier x y zs h a = all_weaker (λ z. order y z ≡ Less) (λ z. order x z ≡ Less) (λ z. order_trans x y z h) zs a
 
 sorted_in_sorted : (x : Bytes) (ys : List Bytes) → IsStrictlySortedBy order ys → IsStrictlySortedBy order (sorted_in x ys)
 unfolding IsStrictlySortedBy

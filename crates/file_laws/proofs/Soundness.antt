@@ -1,6 +1,6 @@
 -- Every call leaves a sound state sound. Assumes nothing.
 use Rattle.std.proofs.Common.{◌≡◌, ℕ, pred, ◌≤◌, Bool, true, false, cond, not, ◌&&◌, eqb, ltb, leb, List, [], length, take, is_some, Some, None, Option, sym, refl, ap, ◌∙◌, subst, true≢false, arith}
-use Rattle.std.proofs.ByRecursion.{All-set}
+use Rattle.std.proofs.lemmas.List.Elements.{All-from_recursion, recursion_from_All, All-set}
 use Rattle.std.proofs.lemmas.List.{length-set}
 use Rattle.std.proofs.lemmas.Bool.{or_parts, not_from_false, not-false, eqb-false, leb-false, ltb-false}
 use Rattle.std.specs.Option.{option_map}
@@ -48,7 +48,9 @@ module _ (d : Description) (s : PlainFile) (h : Sound d s) where
     bytes = h.bytes;
     rows = h.rows;
     eight = length-set s.entries (pred n) e ∙ h.eight;
-    entries = All-set (IfAny (EntryFits d)) s.entries (pred n) e f h.entries;
+    entries =
+        let fits = IfAny (EntryFits d) in
+        recursion_from_All fits _ (All-set fits s.entries (pred n) e f (All-from_recursion fits s.entries h.entries));
     locked = h.locked;
     few = h.few;
     locks = h.locks;

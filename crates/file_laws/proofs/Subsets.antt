@@ -1,6 +1,7 @@
 -- Which records a subset has, which of them is the lowest, and what is left of the subset behind a string of it.
 -- Assumes nothing.
 use Rattle.std.proofs.Common.{◌≡◌, ℕ, Bool, true, false, cond, List, [], ◌∷◌, take, is_some, Some, None, Option, sym, refl, ap, ◌∙◌, subst, inl, inr, true≢false}
+use Rattle.std.proofs.lemmas.Option.{same_Some, none-some}
 use Rattle.std.proofs.lemmas.Bool.{both_ways, and_parts, and_from, not-true, not_from_false}
 use Rattle.byte_strings.specs.Bytes.{Bytes, below}
 use Rattle.byte_strings.proofs.TotalOrder.{below-trans, below_irrefl, below-asym, not_below_trans, same_is, is_same}
@@ -14,7 +15,7 @@ use Rattle.file_rules.specs.Files.{Entry}
 use Rattle.file_rules.specs.Paths.{path_string}
 use Rattle.file_rules.specs.Steps.{moved_to}
 use Rattle.file_rules.specs.Subsets.{Found, found, strings, agrees, within, subset, lower, lowest}
-use Rattle.file_laws.proofs.Members.{In, some_same, never_some, kept_in, in_kept}
+use Rattle.file_laws.proofs.Members.{In, kept_in, in_kept}
 
 -- ---- the strings of the pairs
 
@@ -87,8 +88,8 @@ lowest_none (f ∷ l) h = absurd (true≢false (ap is_some h))
 
 pub lowest_low : (l : List Found) (f : Found) → lowest l ≡ Some f → Low f l
 unfolding lowest
-lowest_low [] f h = absurd (never_some f h)
-lowest_low (g ∷ l) f h = subst (λ z. Low z (g ∷ l)) (some_same (lower g (lowest l)) f h) (low_more g l (lowest l) refl (lowest_low l) (lowest_none l))
+lowest_low [] f h = absurd (none-some f h)
+lowest_low (g ∷ l) f h = subst (λ z. Low z (g ∷ l)) (same_Some (lower g (lowest l)) f h) (low_more g l (lowest l) refl (lowest_low l) (lowest_none l))
 
 -- ---- behind a string of the subset
 

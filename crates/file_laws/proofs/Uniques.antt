@@ -1,5 +1,6 @@
 -- A unique value that is tested before it is written stands in no two records. Assumes nothing.
 use Rattle.std.proofs.Common.{◌≡◌, ℕ, zero, suc, Bool, true, false, cond, not, ◌&&◌, ◌⊎◌, List, [], ◌∷◌, is_some, Some, None, sym, refl, ap, ◌∙◌, subst, inl, inr, true≢false}
+use Rattle.std.proofs.lemmas.Option.{same_Some, none-some}
 use Rattle.std.proofs.lemmas.Bool.{both_ways, or_parts, not_from_false}
 use Rattle.byte_strings.specs.Bytes.{Bytes, same}
 use Rattle.byte_strings.proofs.TotalOrder.{is_same, same_cases, same-flip}
@@ -11,17 +12,17 @@ use Rattle.file_rules.specs.Descriptions.{nth_key}
 use Rattle.file_rules.specs.Loads.{any_shares}
 use Rattle.file_rules.specs.Paths.{value}
 use Rattle.file_laws.specs.Sound.{UniqueOnce}
-use Rattle.file_laws.proofs.Members.{In, some_same, never_some, in_from_under}
+use Rattle.file_laws.proofs.Members.{In, in_from_under}
 use Rattle.file_laws.proofs.Refusals.{and_second}
 
 -- where no path is named, no key passes
 pub none_passes : (t : AlternateKey → Bool) (ks : List AlternateKey) (i j : ℕ) (k : AlternateKey) → is_some (lowest_path i ks t) ≡ false → nth_key ks j ≡ Some k → t k ≡ false
-none_passes t [] i j k h e = absurd (never_some k e)
+none_passes t [] i j k h e = absurd (none-some k e)
 none_passes t (x ∷ ks) i j k h e = go (t x) refl h j e (none_passes t ks (suc i))
   where
     go : (b : Bool) → t x ≡ b → is_some (cond b (Some i) (lowest_path (suc i) ks t)) ≡ false → (j : ℕ) → nth_key (x ∷ ks) j ≡ Some k → ((j : ℕ) (k : AlternateKey) → is_some (lowest_path (suc i) ks t) ≡ false → nth_key ks j ≡ Some k → t k ≡ false) → t k ≡ false
     go true q h j e more = absurd (true≢false h)
-    go false q h zero e more = subst (λ z. t z ≡ false) (some_same x k e) q
+    go false q h zero e more = subst (λ z. t z ≡ false) (same_Some x k e) q
     go false q h (suc j) e more = more j k h e
 
 module _ (k : AlternateKey) (κ v : Bytes) where
@@ -58,7 +59,7 @@ module _ (ks : List AlternateKey) (κ : Bytes) (ps qs : List (Bytes × Bytes)) (
 
 module _ (ks : List AlternateKey) (κ r : Bytes) (ps : List (Bytes × Bytes)) (once : UniqueOnce ks ps) where
   alone_by : (qs : List (Bytes × Bytes)) → under κ qs ≡ Some r → is_some (lowest_path 1 ks (shares ps κ r)) ≡ false → (t : Bytes) → under κ qs ≡ Some t → (i : ℕ) (k : AlternateKey) → nth_key ks i ≡ Some k → shares ps κ t k ≡ false
-  alone_by qs p h t q i k at = subst (λ z. shares ps κ z k ≡ false) (some_same r t (sym p ∙ q)) (none_passes (shares ps κ r) ks 1 i k h at)
+  alone_by qs p h t q i k at = subst (λ z. shares ps κ z k ≡ false) (same_Some r t (sym p ∙ q)) (none_passes (shares ps κ r) ks 1 i k h at)
 
   pub once_placed : under κ ps ≡ None → is_some (lowest_path 1 ks (shares ps κ r)) ≡ false → UniqueOnce ks (placed κ r ps)
   once_placed n h =
@@ -70,7 +71,7 @@ module _ (ks : List AlternateKey) (κ r : Bytes) (ps : List (Bytes × Bytes)) (o
 
 pub once_without : (ks : List AlternateKey) (κ : Bytes) (ps : List (Bytes × Bytes)) → UniqueOnce ks ps → UniqueOnce ks (without κ ps)
 once_without ks κ ps once =
-    once_changed ks κ ps (without κ ps) once (λ η o. removed_elsewhere κ η o ps) (λ r p. absurd (never_some r (sym (removed_here κ ps) ∙ p)))
+    once_changed ks κ ps (without κ ps) once (λ η o. removed_elsewhere κ η o ps) (λ r p. absurd (none-some r (sym (removed_here κ ps) ∙ p)))
 
 -- ---- all records at once
 
