@@ -71,11 +71,7 @@ read_of d s n c b o g at e =
 current_read : (ps : List (Bytes × Bytes)) (c : ℕ) (b : Bytes) (o : Option Bytes) → given o (λ κ. is_some (under κ ps)) ≡ true →
     (κ : Bytes) × (r : Bytes) × (o ≡ Some κ) × (under κ ps ≡ Some r) × (read_current ps c b o ≡ delivered r c b)
 current_read ps c b None h = absurd (true≢false (sym h))
-current_read ps c b (Some κ) h = go (under κ ps) refl
-  where
-    go : (u : Option Bytes) → under κ ps ≡ u → (η : Bytes) × (r : Bytes) × (Some κ ≡ Some η) × (under η ps ≡ Some r) × (read_current ps c b (Some κ) ≡ delivered r c b)
-    go None e = absurd (true≢false (sym h ∙ ap is_some e))
-    go (Some r) e = (κ, r, refl, e, rw (e, read_current))
+current_read ps c b (Some κ) h = let r = some_of (under κ ps) h in let e = r.1 in (κ, r.0, refl, e, grind arith)
 
 delivers_current : (d : Description) (s : PlainFile) (n c : ℕ) (b : Bytes) → refusal d s (READUPDATE n c b) ≡ None → Delivery n (event d s (READUPDATE n c b))
 unfolding effect key_in_question

@@ -1,5 +1,5 @@
 -- What one event does to a file number. Assumes nothing.
-use Rattle.std.proofs.Common.{◌≡◌, ℕ, zero, suc, pred, ◌<◌, ◌≤◌, Bool, true, false, ◌⊎◌, List, [], ◌∷◌, length, set, is_some, Some, None, Option, unwrap_or, sym, refl, ap, ◌∙◌, inl, inr, true≢false, arith}
+use Rattle.std.proofs.Common.{◌≡◌, ℕ, zero, suc, pred, ◌≤◌, Bool, true, false, List, [], ◌∷◌, length, set, is_some, Some, None, Option, unwrap_or, sym, refl, ap, ◌∙◌, true≢false, arith}
 use Rattle.std.specs.Option.{option_map}
 use Rattle.std.proofs.lemmas.List.{get_or-set_same, get_or-set_other, get_or_past}
 use Rattle.std.proofs.lemmas.Bool.{both_ways, and_parts, and_from, eqb-true, eq-eqb, not-true, not-false, cases_lt}
@@ -24,11 +24,7 @@ use Rattle.file_laws.proofs.Refusals.{nonzero, told_empty, clear, low}
 pub numbered-same : (es : List (Option Entry)) (n : ℕ) (e : Option Entry) → is_some (numbered es n) ≡ true → numbered (set es (pred n) e) n ≡ e
 unfolding numbered
 numbered-same es zero e h = absurd (true≢false (sym h))
-numbered-same es (suc n) e h = get_or-set_same es n e None (go (cases_lt n (length es)))
-  where
-    go : (n < length es) ⊎ (length es ≤ n) → n < length es
-    go (inl l) = l
-    go (inr l) = absurd (true≢false (sym h ∙ ap is_some (get_or_past es n None l)))
+numbered-same es (suc n) e h = let o = cases_lt n (length es) in grind (arith, get_or-set_same, get_or_past)
 
 pub numbered-other : (es : List (Option Entry)) (n m : ℕ) (e : Option Entry) → 1 ≤ m → (m ≡ n → ⊥) → numbered (set es (pred m) e) n ≡ numbered es n
 unfolding numbered
@@ -59,11 +55,7 @@ accepted_zero d s c h = ap (λ (z : PlainFile × Answer). z.1.number) (accepted_
 
 -- a call that answers 0 was accepted
 pub accepted : (d : Description) (s : PlainFile) (c : Call) → (step d s c).1.number ≡ 0 → refusal d s c ≡ None
-accepted d s c h = go (refusal d s c) refl
-  where
-    go : (r : Option CallFault) → refusal d s c ≡ r → refusal d s c ≡ None
-    go None e = e
-    go (Some r) e = absurd (nonzero d s c r e (sym (ap (λ (z : PlainFile × Answer). z.1.number) (refused_step d s c r e)) ∙ h))
+accepted d s c h = grind (arith, nonzero, refused_step)
 
 pub saw_parts : (m : CallName) (n a : ℕ) (e : Event) → saw m n a e ≡ true → (is m e.call ≡ true) × (number e.call ≡ n) × (e.answer.number ≡ a)
 saw_parts m n a e h =
@@ -126,8 +118,7 @@ took d s n count b o h e = go (next_record d s n) refl
         read_at z = (with_entry s n (Some (moved_to z f)), delivered f.bytes count b)
 
 empty_next : (o : Option Found) → is_some (option_map (λ (f : Found). f.key) o) ≡ false → o ≡ None
-empty_next None h = refl
-empty_next (Some f) h = absurd (true≢false h)
+empty_next o h = grind arith
 
 -- READ answered 1 where nothing is left of the subset
 pub ended : (d : Description) (s : PlainFile) (n count : ℕ) (b : Bytes) (o : Entry) → entry_of s n ≡ Some o → (step d s (READ n count b)).1.number ≡ 1 → lowest (subset d s.pairs o) ≡ None

@@ -1,5 +1,5 @@
 -- Members of a list: pairs and what stands under their keys, and what a filter keeps. Assumes nothing.
-use Rattle.std.proofs.Common.{◌≡◌, Bool, true, false, cond, T, ◌⊎◌, List, [], ◌∷◌, is_some, Some, None, filter, Option, sym, refl, ap, ◌∙◌, subst, inl, inr, true≢false}
+use Rattle.std.proofs.Common.{◌≡◌, Bool, true, false, cond, T, ◌⊎◌, List, [], ◌∷◌, is_some, Some, None, filter, Option, sym, refl, ap, subst, inl, inr, true≢false, arith}
 use Rattle.std.proofs.lemmas.Option.{same_Some, none-some}
 use Rattle.std.specs.Ordering.{is_lt}
 use Rattle.std.specs.List.{AllByRecursion}
@@ -62,18 +62,8 @@ under-from-in p (q ∷ ps) h (inr i) =
 module _ {A : Type 0} (t : A → Bool) where
   pub kept_in : (l : List A) (x : A) → In x (filter t l) → In x l × (t x ≡ true)
   kept_in [] x h = absurd h
-  kept_in (y ∷ ys) x h = go (t y) refl h (kept_in ys x)
-    where
-      go : (b : Bool) → t y ≡ b → In x (cond b (y ∷ filter t ys) (filter t ys)) → (In x (filter t ys) → In x ys × (t x ≡ true)) → In x (y ∷ ys) × (t x ≡ true)
-      go true e (inl p) k = (inl p, subst (λ z. t z ≡ true) p e)
-      go true e (inr p) k = (inr (k p).0, (k p).1)
-      go false e p k = (inr (k p).0, (k p).1)
+  kept_in (y ∷ ys) x h = let k : In x (filter t ys) → In x ys × (t x ≡ true) = kept_in ys x in grind arith
 
   pub in_kept : (l : List A) (x : A) → In x l → t x ≡ true → In x (filter t l)
   in_kept [] x h e = h
-  in_kept (y ∷ ys) x (inl p) e = let q : t y ≡ true = ap t p ∙ e in rw q (inl p)
-  in_kept (y ∷ ys) x (inr p) e = go (t y) (in_kept ys x p e)
-    where
-      go : (b : Bool) → In x (filter t ys) → In x (cond b (y ∷ filter t ys) (filter t ys))
-      go true k = inr k
-      go false k = k
+  in_kept (y ∷ ys) x h e = let k : In x ys → In x (filter t ys) = λ i. in_kept ys x i e in grind arith

@@ -3,8 +3,8 @@ use Rattle.std.proofs.Common.{◌≡◌, ℕ, zero, suc, ◌-◌, true, List, []
 use Rattle.std.proofs.lemmas.Option.{none-some}
 use Rattle.std.specs.Option.{option_map}
 use Rattle.std.proofs.lemmas.List.{append_assoc, length-append, drop_at}
-use Rattle.std.proofs.lemmas.Bool.{or_cases, or_left, or_right}
-use Rattle.byte_strings.specs.Bytes.{Bytes, same}
+use Rattle.std.proofs.lemmas.Bool.{or_cases}
+use Rattle.byte_strings.specs.Bytes.{Bytes}
 use Rattle.storage.specs.Laws.{has}
 use Rattle.storage.specs.Pairs.{Ascending, keys, under}
 use Rattle.file_rules.specs.declared.description.AlternateKey.{AlternateKey}
@@ -33,14 +33,8 @@ module _ (κ r x : Bytes) where
 
   pub row_on_path : (ks : List AlternateKey) (i : ℕ) (k : AlternateKey) → nth_key ks i ≡ Some k → row k κ r ≡ Some x → has x (record_rows ks κ r) ≡ true
   row_on_path [] i k n e = absurd (none-some k n)
-  row_on_path (j ∷ ks) zero k n e =
-      let s : j ≡ k = cc in
-      subst (λ o. has x (and_then o (record_rows ks κ r)) ≡ true) (sym (ap (λ l. row l κ r) s ∙ e)) (has-itself x (record_rows ks κ r))
-  row_on_path (j ∷ ks) (suc i) k n e = go (row j κ r) (row_on_path ks i k n e)
-    where
-      go : (o : Option Bytes) → has x (record_rows ks κ r) ≡ true → has x (and_then o (record_rows ks κ r)) ≡ true
-      go None h = h
-      go (Some y) h = or_right (same y x) (has x (record_rows ks κ r)) h
+  row_on_path (j ∷ ks) zero k n e = grind (arith, has-itself)
+  row_on_path (j ∷ ks) (suc i) k n e = let h = row_on_path ks i k n e in grind arith
 
 pub drop-front : (front κ : Bytes) → drop (length (front ++ κ) - length κ) (front ++ κ) ≡ κ
 drop-front front κ = drop_at front κ _ (let l = length-append front κ in omega arith)
@@ -73,12 +67,9 @@ module _ (ks : List AlternateKey) (x : Bytes) where
 
   row_of_pair : (ps : List (Bytes × Bytes)) (p : Bytes × Bytes) → In p ps → has x (record_rows ks p.0 p.1) ≡ true → has x (all_rows ks ps) ≡ true
   row_of_pair [] p i h = absurd i
-  row_of_pair (q ∷ ps) p (inl e) h =
-      has-append x (record_rows ks q.0 q.1) (all_rows ks ps)
-      ∙ or_left (has x (record_rows ks q.0 q.1)) (has x (all_rows ks ps)) (ap (λ z. has x (record_rows ks z.0 z.1)) e ∙ h)
-  row_of_pair (q ∷ ps) p (inr i) h =
-      has-append x (record_rows ks q.0 q.1) (all_rows ks ps)
-      ∙ or_right (has x (record_rows ks q.0 q.1)) (has x (all_rows ks ps)) (row_of_pair ps p i h)
+  row_of_pair (q ∷ ps) p i h =
+      let k : In p ps → has x (all_rows ks ps) ≡ true = λ i. row_of_pair ps p i h in
+      grind (arith, has-append)
 
   pub record_of_row : (ps : List (Bytes × Bytes)) → Ascending (keys ps) → has x (all_rows ks ps) ≡ true → OfRecord ks ps x
   record_of_row ps a h =

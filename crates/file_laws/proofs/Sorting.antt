@@ -111,11 +111,7 @@ heads x y xs ys a b h k = go (below x y) (below y x) refl refl
     go false false l m = below_neither x y l m
 
 tails : (x : Bytes) (xs ys : List Bytes) → Before x xs → Before x ys → ((z : Bytes) → has z (x ∷ xs) ≡ has z (x ∷ ys)) → (z : Bytes) → has z xs ≡ has z ys
-tails x xs ys a b h z = go (same x z) refl (h z)
-  where
-    go : (s : Bool) → same x z ≡ s → (s || has z xs) ≡ (s || has z ys) → has z xs ≡ has z ys
-    go true e k = subst (λ w. has w xs ≡ has w ys) (same_is x z e) (absent x xs a ∙ sym (absent x ys b))
-    go false e k = k
+tails x xs ys a b h z = let k = h z in grind (arith, same_is, absent)
 
 same_lists : (xs ys : List Bytes) → IsStrictlySortedBy order xs → IsStrictlySortedBy order ys → ((z : Bytes) → has z xs ≡ has z ys) → xs ≡ ys
 unfolding IsStrictlySortedBy

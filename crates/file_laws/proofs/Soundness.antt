@@ -12,7 +12,7 @@ use Rattle.storage.proofs.Figures.{length-placed, length-replaced}
 use Rattle.storage.proofs.OwnPair.{placed_ascending, replaced_ascending, removed_ascending}
 use Rattle.file_rules.specs.declared.fault.CallFault.{CallFault}
 use Rattle.file_rules.specs.Calls.{Call, OPEN, CLOSE, KEYPOSITION, READ, READUPDATE, WRITE, WRITEUPDATE, LOCKFILE, UNLOCKFILE, LOCKREC, UNLOCKREC, LOCKINFO, Answer}
-use Rattle.file_rules.specs.Checks.{given, anothers, cuts_key, clash_under}
+use Rattle.file_rules.specs.Checks.{given, cuts_key, clash_under}
 use Rattle.file_rules.specs.Descriptions.{Description, key_len, shape_of}
 use Rattle.file_rules.specs.Files.{Entry, PlainFile, entry_of, own, with_entry, with_pairs, with_locks}
 use Rattle.file_rules.specs.Keys.{key_by, needs_name, new_key, key_in_question, written_under, written}
@@ -132,13 +132,10 @@ module _ (d : Description) (s : PlainFile) (h : Sound d s) where
 
   sound_released : (n : ℕ) (o : Option Bytes) → Sound d (with_locks s s.file_lock (lock_released n o s.record_locks))
   sound_released n None = h
-  sound_released n (Some κ) = go (anothers n (under κ s.record_locks))
-    where
-      go : (b : Bool) → Sound d (with_locks s s.file_lock (cond b s.record_locks (without κ s.record_locks)))
-      go true = h
-      go false =
-          sound_locks s.file_lock (without κ s.record_locks) (removed_ascending κ s.record_locks h.locked)
-          (omega (arith, length_without κ s.record_locks, h.few)) (all_without κ (LockFits d) s.record_locks h.locks)
+  sound_released n (Some κ) =
+      let w = sound_locks s.file_lock (without κ s.record_locks) (removed_ascending κ s.record_locks h.locked)
+      (omega (arith, length_without κ s.record_locks, h.few)) (all_without κ (LockFits d) s.record_locks h.locks) in
+      grind arith
 
   -- ---- writes
 

@@ -1,8 +1,8 @@
 -- Which records a subset has, which of them is the lowest, and what is left of the subset behind a string of it.
 -- Assumes nothing.
-use Rattle.std.proofs.Common.{◌≡◌, ℕ, Bool, true, false, cond, List, [], ◌∷◌, take, is_some, Some, None, Option, sym, refl, ap, ◌∙◌, subst, inl, inr, true≢false}
+use Rattle.std.proofs.Common.{◌≡◌, ℕ, Bool, true, false, cond, List, [], ◌∷◌, take, is_some, Some, None, Option, sym, refl, ap, ◌∙◌, subst, inl, inr, true≢false, arith}
 use Rattle.std.proofs.lemmas.Option.{same_Some, none-some}
-use Rattle.std.proofs.lemmas.Bool.{both_ways, and_parts, and_from, not-true, not_from_false}
+use Rattle.std.proofs.lemmas.Bool.{and_parts, and_from}
 use Rattle.byte_strings.specs.Bytes.{Bytes, below}
 use Rattle.byte_strings.proofs.TotalOrder.{below-trans, below_irrefl, below-asym, not_below_trans, same_is, is_same}
 use Rattle.storage.specs.declared.mark.PositionMark.{PositionMark}
@@ -14,7 +14,7 @@ use Rattle.file_rules.specs.Descriptions.{Description}
 use Rattle.file_rules.specs.Files.{Entry}
 use Rattle.file_rules.specs.Paths.{path_string}
 use Rattle.file_rules.specs.Steps.{moved_to}
-use Rattle.file_rules.specs.Subsets.{Found, found, strings, agrees, within, subset, lower, lowest}
+use Rattle.file_rules.specs.Subsets.{Found, strings, agrees, within, subset, lower, lowest}
 use Rattle.file_laws.proofs.Members.{In, kept_in, in_kept}
 
 -- ---- the strings of the pairs
@@ -23,26 +23,12 @@ module _ (d : Description) (path : ℕ) where
   strings_in : (ps : List (Bytes × Bytes)) (f : Found) → In f (strings d path ps) → In (f.key, f.bytes) ps × (path_string d path f.key f.bytes ≡ Some f.string)
   unfolding strings
   strings_in [] f h = absurd h
-  strings_in (p ∷ ps) f h = go (path_string d path p.0 p.1) refl h (strings_in ps f)
-    where
-      go : (o : Option Bytes) → path_string d path p.0 p.1 ≡ o → In f (found o p (strings d path ps)) →
-          (In f (strings d path ps) → In (f.key, f.bytes) ps × (path_string d path f.key f.bytes ≡ Some f.string)) →
-          In (f.key, f.bytes) (p ∷ ps) × (path_string d path f.key f.bytes ≡ Some f.string)
-      go None e i k = (inr (k i).0, (k i).1)
-      go (Some x) e (inl q) k = (inl (ap (λ (g : Found). (g.key, g.bytes)) q), subst (λ (g : Found). path_string d path g.key g.bytes ≡ Some g.string) q e)
-      go (Some x) e (inr q) k = (inr (k q).0, (k q).1)
+  strings_in (p ∷ ps) f h = let k = strings_in ps f in grind arith
 
   in_strings : (ps : List (Bytes × Bytes)) (p : Bytes × Bytes) (x : Bytes) → In p ps → path_string d path p.0 p.1 ≡ Some x → In (record { string = x; key = p.0; bytes = p.1 }) (strings d path ps)
   unfolding strings
   in_strings [] p x h e = absurd h
-  in_strings (q ∷ ps) p x (inl h) e =
-      let w : path_string d path q.0 q.1 ≡ Some x = ap (λ (r : Bytes × Bytes). path_string d path r.0 r.1) h ∙ e in
-      rw w (inl (ap (λ (r : Bytes × Bytes). record { string = x; key = r.0; bytes = r.1 }) h))
-  in_strings (q ∷ ps) p x (inr h) e = go (path_string d path q.0 q.1) (in_strings ps p x h e)
-    where
-      go : (o : Option Bytes) → In (record { string = x; key = p.0; bytes = p.1 }) (strings d path ps) → In (record { string = x; key = p.0; bytes = p.1 }) (found o q (strings d path ps))
-      go None k = k
-      go (Some y) k = inr k
+  in_strings (q ∷ ps) p x h e = let k : In p ps → In (record { string = x; key = p.0; bytes = p.1 }) (strings d path ps) = λ i. in_strings ps p x i e in grind arith
 
 module _ (d : Description) (ps : List (Bytes × Bytes)) (o : Entry) where
   pub in_subset : (p : Bytes × Bytes) (x : Bytes) → In p ps → path_string d o.path p.0 p.1 ≡ Some x → within o x ≡ true → In (record { string = x; key = p.0; bytes = p.1 }) (subset d ps o)
@@ -95,11 +81,7 @@ lowest_low (g ∷ l) f h = subst (λ z. Low z (g ∷ l)) (same_Some (lower g (lo
 
 reached_on : (m : PositionMark) (p y x : Bytes) → reached m p y ≡ true → below y x ≡ true → reached m p x ≡ true
 reached_on Beyond p y x h k = below-trans p y x h k
-reached_on At p y x h k = not_from_false (below x p) (go (below x p) refl)
-  where
-    go : (b : Bool) → below x p ≡ b → below x p ≡ false
-    go true e = absurd (both_ways (below y p) (not-true (below y p) h) (below-trans y x p k e))
-    go false e = e
+reached_on At p y x h k = grind (arith, below-trans)
 
 module _ (c : ℕ) (p y x : Bytes) where
   agrees_on : (m : PositioningMode) → agrees m c p y ≡ true → agrees m c y x ≡ true → agrees m c p x ≡ true
