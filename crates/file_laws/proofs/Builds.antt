@@ -1,5 +1,5 @@
 -- The fresh key build is what it says, and a record that comes, goes or changes alters it by its own rows. Assumes nothing.
-use Rattle.std.proofs.Common.{◌≡◌, ◌-◌, Bool, true, false, not, ◌&&◌, ◌||◌, ◌⊎◌, List, [], length, drop, is_some, Some, None, Option, sym, refl, ap, ◌∙◌, inl, inr, ⊎_elim, true≢false, arith}
+use Rattle.std.proofs.Common.{◌≡◌, ◌-◌, Bool, true, false, not, ◌&&◌, ◌||◌, ◌⊎◌, List, [], length, drop, is_some, Some, None, Option, sym, ap, ◌∙◌, inl, inr, ⊎_elim, true≢false, arith}
 use Rattle.std.proofs.Math.Bool.{and-true}
 use Rattle.std.specs.List.{AllByRecursion}
 use Rattle.byte_strings.specs.Bytes.{Bytes, same}
@@ -54,30 +54,18 @@ module _ (ks : List AlternateKey) (κ x : Bytes) where
   own_row (Some r) ps e h = record { key = κ; bytes = r; present = e; one_of_its = h }
 
   own_row_ends : (o : Option Bytes) → has x (rows_under ks κ o) ≡ true → drop (length x - length κ) x ≡ κ
-  own_row_ends None h = absurd (true≢false (sym h))
-  own_row_ends (Some r) h = row_ends ks κ r x h
+  own_row_ends o h = grind (arith, row_ends)
 
   -- a row of a present record is a row under κ, or of a record elsewhere
   here_or_elsewhere : (o : Option Bytes) (ps : List (Bytes × Bytes)) → under κ ps ≡ o → (w : OfRecord ks ps x) → (has x (rows_under ks κ o) ≡ true) ⊎ (same κ w.key ≡ false)
-  here_or_elsewhere o ps e w = ⊎_elim (λ s. inl (here s)) inr (same_cases κ w.key)
-    where
-      here : κ ≡ w.key → has x (rows_under ks κ o) ≡ true
-      here s =
-          let i : o ≡ Some w.bytes = sym e ∙ (ap (λ k. under k ps) s ∙ w.present) in
-          (λ j. has x (rows_under ks (s j) (i j))) ∙ w.one_of_its
+  here_or_elsewhere o ps e w = let c = same_cases κ w.key in grind arith
 
   -- and the record elsewhere has a key as long as κ, so that its rows are no rows under κ
   elsewhere : (o : Option Bytes) (ps : List (Bytes × Bytes)) → AllByRecursion (λ p. length p.0 ≡ length κ) ps → (w : OfRecord ks ps x) → same κ w.key ≡ false → has x (rows_under ks κ o) ≡ false
-  elsewhere o ps long w other = go (has x (rows_under ks κ o)) refl
-    where
-      as_long : length w.key ≡ length κ
-      as_long = all_in (λ p. length p.0 ≡ length κ) (w.key, w.bytes) ps long (in_from_under w.key w.bytes ps w.present)
-
-      go : (b : Bool) → has x (rows_under ks κ o) ≡ b → b ≡ false
-      go true h =
-          let s : κ ≡ w.key = sym (own_row_ends o h) ∙ (ap (λ n. drop (length x - n) x) (sym as_long) ∙ row_ends ks w.key w.bytes x w.one_of_its) in
-          absurd (true≢false (sym (is_same κ w.key s) ∙ other))
-      go false h = refl
+  elsewhere o ps long w other =
+      let as_long : length w.key ≡ length κ = all_in (λ p. length p.0 ≡ length κ) (w.key, w.bytes) ps long (in_from_under w.key w.bytes ps w.present) in
+      let ends = row_ends ks w.key w.bytes x w.one_of_its in
+      grind (arith, own_row_ends, is_same)
 
 -- the rows after are the new and those before that are not old
 balance : (after new before old : Bool) → (new ≡ true → after ≡ true) → (after ≡ true → (new ≡ true) ⊎ ((before ≡ true) × (old ≡ false))) → (before ≡ true → (old ≡ true) ⊎ (after ≡ true)) → after ≡ (new || (before && not old))

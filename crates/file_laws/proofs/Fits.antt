@@ -1,5 +1,5 @@
 -- The entries, keys and records that an accepted call makes are as long as they should be. Assumes nothing.
-use Rattle.std.proofs.Common.{◌≡◌, ℕ, zero, suc, ◌-◌, ◌≤◌, min, Bool, true, false, ltb, List, [], ◌∷◌, length, take, drop, Some, None, Option, refl, ap, ◌∙◌, subst, true≢false, arith}
+use Rattle.std.proofs.Common.{◌≡◌, ℕ, zero, suc, ◌-◌, ◌≤◌, min, true, false, ltb, List, [], ◌∷◌, length, take, drop, Some, Option, refl, ap, ◌∙◌, subst, arith}
 use Rattle.std.proofs.lemmas.Bool.Decides.{nat_tests}
 use Rattle.std.proofs.lemmas.Option.{none-some, same_Some}
 use Rattle.std.proofs.lemmas.List.{length-take, length-drop, length-append}
@@ -14,10 +14,9 @@ use Rattle.file_rules.specs.declared.description.Organization.TheVariants.{Relat
 use Rattle.file_rules.specs.declared.modes.PositioningMode.{PositioningMode}
 use Rattle.file_rules.specs.Calls.{Positioning}
 use Rattle.file_rules.specs.Checks.{wrong_compare, bad_position, cuts_key}
-use Rattle.file_rules.specs.Descriptions.{Description, cut, end_of, kind_of, key_len, key_length, field_length, string_length}
+use Rattle.file_rules.specs.Descriptions.{Description, cut, end_of, kind_of, key_len, key_length, string_length}
 use Rattle.file_rules.specs.Files.{Entry, numbered}
 use Rattle.file_rules.specs.Keys.{key_by}
-use Rattle.file_rules.specs.Modes.{positioning_of}
 use Rattle.file_rules.specs.Paths.{value, path_string}
 use Rattle.file_rules.specs.Steps.{named_key, opened_by, positioned}
 use Rattle.file_laws.specs.Sound.{IfAny, EntryFits}
@@ -45,14 +44,10 @@ positioned_fits d o p h k =
     let q = or_parts _ _ k in
     record {
       path = ltb-false _ _ h;
-      compare = go (positioning_of p.mode) q.1;
+      compare = grind (arith, compare_fits);
       position = ltb-false _ _ q.0;
       current = named_fits d p.path p.value;
     }
-  where
-    go : (m : Option PositioningMode) → elim m as (λ _. Bool) [ None ↦ true | Some m ↦ wrong_compare m (field_length d p.path) (length p.value) p.compare ] ≡ false → p.compare ≤ field_length d p.path
-    go None e = absurd (true≢false e)
-    go (Some m) e = compare_fits m (field_length d p.path) (length p.value) p.compare e
 
 -- ---- path strings
 

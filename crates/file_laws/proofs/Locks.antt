@@ -1,6 +1,6 @@
 -- The law of locks. Assumes nothing.
 use Rattle.std.proofs.Common.{◌≡◌, ℕ, Bool, true, false, ◌&&◌, ◌||◌, eqb, List, [], ◌∷◌, Some, None, Option, sym, refl, ap, ◌∙◌, subst, arith}
-use Rattle.std.proofs.lemmas.Bool.{both_ways, and_parts, eqb-true, not-false}
+use Rattle.std.proofs.lemmas.Bool.{and_parts, eqb-true, not-false}
 use Rattle.std.proofs.lemmas.Bool.Decides.{nat_tests}
 use Rattle.std.specs.Option.{option_map}
 use Rattle.std.specs.List.{AllByRecursion}
@@ -110,13 +110,7 @@ released : (e : Event) (n : ℕ) (κ : Bytes) → number e.call ≡ n → e.answ
 released e n κ m z h = grind (arith, nat_tests)
 
 stays : (d : Description) (s : PlainFile) (c : Call) (n : ℕ) (κ : Bytes) → under κ s.record_locks ≡ Some n → releases n κ (event d s c) ≡ false → under κ (step d s c).0.record_locks ≡ Some n
-stays d s c n κ h x = go (refusal d s c) refl
-  where
-    go : (r : Option CallFault) → refusal d s c ≡ r → under κ (step d s c).0.record_locks ≡ Some n
-    go (Some r) e = ap (λ (z : PlainFile × Answer). under κ z.0.record_locks) (refused_step d s c r e) ∙ h
-    go None e =
-        ap (λ (z : PlainFile × Answer). under κ z.0.record_locks) (accepted_step d s c e)
-        ∙ effect_held d s c n κ h (λ m l. both_ways (releases n κ (event d s c)) x (released (event d s c) n κ m (accepted_zero d s c e) l))
+stays d s c n κ h x = let r = released (event d s c) n κ in grind (arith, refused_step, accepted_step, accepted_zero, effect_held)
 
 -- ---- the LOCKREC
 

@@ -1,6 +1,6 @@
 -- Members of a list: pairs and what stands under their keys, and what a filter keeps. Assumes nothing.
-use Rattle.std.proofs.Common.{◌≡◌, Bool, true, false, cond, T, ◌⊎◌, List, [], ◌∷◌, is_some, Some, None, filter, Option, sym, refl, ap, subst, inl, inr, true≢false, arith}
-use Rattle.std.proofs.lemmas.Option.{same_Some, none-some}
+use Rattle.std.proofs.Common.{◌≡◌, Bool, true, false, T, ◌⊎◌, List, [], ◌∷◌, is_some, Some, None, filter, Option, sym, refl, ap, subst, inl, inr, true≢false, arith}
+use Rattle.std.proofs.lemmas.Option.{none-some}
 use Rattle.std.specs.Ordering.{is_lt}
 use Rattle.std.specs.List.{AllByRecursion}
 use Rattle.ordered_table.specs.Table.{is_strictly_sorted_by}
@@ -36,11 +36,10 @@ all_weaker P Q f (x ∷ xs) h = (f x h.0, all_weaker P Q f xs h.1)
 pub in_from_under : {A : Type 0} (κ : Bytes) (a : A) (ps : List (Bytes × A)) → under κ ps ≡ Some a → In (κ, a) ps
 unfolding under
 in_from_under κ a [] h = absurd (none-some a h)
-in_from_under κ a (p ∷ ps) h = go (same p.0 κ) refl h (in_from_under κ a ps)
-  where
-    go : (b : Bool) → same p.0 κ ≡ b → cond b (Some p.1) (under κ ps) ≡ Some a → (under κ ps ≡ Some a → In (κ, a) ps) → In (κ, a) (p ∷ ps)
-    go true e q k = inl (λ i. (same_is p.0 κ e i, same_Some p.1 a q i))
-    go false e q k = inr (k q)
+in_from_under κ a (p ∷ ps) h =
+    let k = in_from_under κ a ps in
+    let here : same p.0 κ ≡ true → p.1 ≡ a → p ≡ (κ, a) = λ e q i. (same_is p.0 κ e i, q i) in
+    grind arith
 
 -- what follows a key in an ascending list stands above it
 pub above_first : {A : Type 0} (κ : Bytes) (p : Bytes × A) (ps : List (Bytes × A)) → T (beyond total_order κ (keys ps)) → In p ps → below κ p.0 ≡ true

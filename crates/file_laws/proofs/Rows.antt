@@ -3,7 +3,6 @@ use Rattle.std.proofs.Common.{◌≡◌, ℕ, zero, suc, ◌-◌, true, List, []
 use Rattle.std.proofs.lemmas.Option.{none-some}
 use Rattle.std.specs.Option.{option_map}
 use Rattle.std.proofs.lemmas.List.{append_assoc, length-append, drop_at}
-use Rattle.std.proofs.lemmas.Bool.{or_cases}
 use Rattle.byte_strings.specs.Bytes.{Bytes}
 use Rattle.storage.specs.Laws.{has}
 use Rattle.storage.specs.Pairs.{Ascending, keys, under}
@@ -63,7 +62,7 @@ module _ (ks : List AlternateKey) (x : Bytes) where
   pair_of_row [] h = absurd (true≢false (sym h))
   pair_of_row (p ∷ ps) h =
       ⊎_elim (λ t. (p, inl refl, t)) (λ t. let w = pair_of_row ps t in (w.0, inr w.1, w.2))
-      (or_cases (has x (record_rows ks p.0 p.1)) (has x (all_rows ks ps)) (sym (has-append x (record_rows ks p.0 p.1) (all_rows ks ps)) ∙ h))
+      (let a = has-append x (record_rows ks p.0 p.1) (all_rows ks ps) in grind arith)
 
   row_of_pair : (ps : List (Bytes × Bytes)) (p : Bytes × Bytes) → In p ps → has x (record_rows ks p.0 p.1) ≡ true → has x (all_rows ks ps) ≡ true
   row_of_pair [] p i h = absurd i

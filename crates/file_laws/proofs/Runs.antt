@@ -1,6 +1,6 @@
 -- The law of runs. Assumes nothing.
 use Rattle.std.proofs.Common.{◌≡◌, ℕ, zero, suc, ◌-◌, Bool, true, false, cond, ◌⊎◌, List, [], ◌∷◌, ◌++◌, length, drop, Some, None, Option, Less, sym, refl, ap, ◌∙◌, subst, inl, inr, true≢false, arith}
-use Rattle.std.proofs.lemmas.Option.{same_Some, none-some}
+use Rattle.std.proofs.lemmas.Option.{same_Some}
 use Rattle.std.proofs.lemmas.Bool.{both_ways, or_cases}
 use Rattle.std.specs.Option.{option_map}
 use Rattle.std.specs.List.Sorted.{IsStrictlySortedBy}
@@ -13,7 +13,7 @@ use Rattle.file_rules.specs.Calls.{Call, KEYPOSITION, READ, Answer, KeyPosition,
 use Rattle.file_rules.specs.Checks.{given}
 use Rattle.file_rules.specs.Descriptions.{Description, key_len, nth_key}
 use Rattle.file_rules.specs.Files.{Entry, PlainFile, entry_of, own}
-use Rattle.file_rules.specs.Paths.{value, alternate_string, path_string}
+use Rattle.file_rules.specs.Paths.{alternate_string, path_string}
 use Rattle.file_rules.specs.Refusals.{refusal}
 use Rattle.file_rules.specs.Steps.{Event, moved_to, positioned, effect, step, event, trace}
 use Rattle.file_rules.specs.Subsets.{Found, within, subset, lowest}
@@ -87,11 +87,10 @@ module _ (d : Description) (n : ℕ) (o : Entry) (s : PlainFile) (e : Event) (es
     }
       where
         above : (κ x : Bytes) → within o x ≡ true → Keeps d o.path κ x s → same f.string x ≡ false → (b : Bool) → below f.string x ≡ b → below f.string x ≡ true
-        above κ x w p ne true q = q
-        above κ x w p ne false q =
+        above κ x w p ne b q =
             let g = kept_found d s o κ x w p in
-            let l : below x f.string ≡ false = subst (λ y. below y f.string ≡ false) g.2 (low.1 g.0 g.1) in
-            absurd (both_ways (same f.string x) ne (is_same f.string x (below_neither f.string x q l)))
+            let l = low.1 g.0 g.1 in
+            grind (arith, is_same, below_neither)
 
         each : (κ x : Bytes) → within o x ≡ true → Keeps d o.path κ x s → Keeps d o.path κ x e.after × AllByRecursion (λ e. Keeps d o.path κ x e.after) es → exhausted n es ≡ true → (f.string ≡ x) ⊎ (same f.string x ≡ false) → cond (same f.string x) (suc (times x (strings_read n es))) (times x (strings_read n es)) ≡ 1
         each κ x w p a q (inl eq) =
@@ -155,12 +154,10 @@ string_ends d zero κ r η t x l h k = same_Some κ x h ∙ sym (same_Some η x 
 string_ends d (suc i) κ r η t x l h k = go (nth_key d.alternates i) h k
   where
     ending : (o : Option Bytes) (θ : Bytes) → option_map (λ v. v ++ θ) o ≡ Some x → drop (length x - length θ) x ≡ θ
-    ending None θ e = absurd (none-some x e)
-    ending (Some v) θ e = subst (λ z. drop (length z - length θ) z ≡ θ) (same_Some (v ++ θ) x e) (drop-front v θ)
+    ending o θ e = grind (arith, drop-front)
 
     go : (o : Option AlternateKey) → alternate_string o κ r ≡ Some x → alternate_string o η t ≡ Some x → κ ≡ η
-    go None h k = absurd (none-some x h)
-    go (Some a) h k = sym (ending (value a r) κ h) ∙ (ap (λ m. drop (length x - m) x) l ∙ ending (value a t) η k)
+    go o h k = grind (arith, ending)
 
 module _ (d : Description) (o : Entry) (n : ℕ) (κ x : Bytes) where
   key_length_of : (s : PlainFile) (η t : Bytes) → Sound d s → under η s.pairs ≡ Some t → length η ≡ key_len d
@@ -182,9 +179,7 @@ module _ (d : Description) (o : Entry) (n : ℕ) (κ x : Bytes) where
           p.2 (a.string ∙ ap Some e)
 
       go : (κ ≡ a.delivery.key) ⊎ (same κ a.delivery.key ≡ false) → ((own (step d s c).0 n).position ≡ x) ⊎ (same (own (step d s c).0 n).position x ≡ false) → same κ a.delivery.key ≡ same (own (step d s c).0 n).position x
-      go (inl e) w = is_same _ _ e ∙ sym (is_same _ _ (together e))
-      go (inr e) (inl w) = absurd (both_ways _ e (is_same _ _ (apart w)))
-      go (inr e) (inr w) = e ∙ sym w
+      go v w = grind (arith, is_same, together, apart)
 
   by_records : (cs : List Call) (s : PlainFile) → Sound d s → Keeps d o.path κ x s → AllByRecursion (λ e. Keeps d o.path κ x e.after) (trace d s cs) → AllByRecursion (λ e. delivers n e ≡ true → Along d o n e) (trace d s cs) → times_read n κ (trace d s cs) ≡ times x (strings_read n (trace d s cs))
   unfolding trace

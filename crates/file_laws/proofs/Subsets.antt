@@ -1,6 +1,6 @@
 -- Which records a subset has, which of them is the lowest, and what is left of the subset behind a string of it.
 -- Assumes nothing.
-use Rattle.std.proofs.Common.{◌≡◌, ℕ, Bool, true, false, cond, List, [], ◌∷◌, take, is_some, Some, None, Option, sym, refl, ap, ◌∙◌, subst, inl, inr, true≢false, arith}
+use Rattle.std.proofs.Common.{◌≡◌, ℕ, Bool, true, false, cond, List, [], ◌∷◌, is_some, Some, None, Option, refl, ap, subst, inl, inr, true≢false, arith}
 use Rattle.std.proofs.lemmas.Option.{same_Some, none-some}
 use Rattle.std.proofs.lemmas.Bool.{and_parts, and_from}
 use Rattle.byte_strings.specs.Bytes.{Bytes, below}
@@ -9,7 +9,6 @@ use Rattle.storage.specs.declared.mark.PositionMark.{PositionMark}
 use Rattle.storage.specs.declared.mark.PositionMark.TheVariants.{At, Beyond}
 use Rattle.storage.specs.Pairs.{reached}
 use Rattle.file_rules.specs.declared.modes.PositioningMode.{PositioningMode}
-use Rattle.file_rules.specs.declared.modes.PositioningMode.TheVariants.{Approximate, Generic, Exact}
 use Rattle.file_rules.specs.Descriptions.{Description}
 use Rattle.file_rules.specs.Files.{Entry}
 use Rattle.file_rules.specs.Paths.{path_string}
@@ -48,24 +47,12 @@ abbrev pub Low : Found → List Found → Type 0
 Low f l = In f l × ((g : Found) → In g l → below g.string f.string ≡ false)
 
 low_more : (f : Found) (l : List Found) (o : Option Found) → lowest l ≡ o → ((g : Found) → lowest l ≡ Some g → Low g l) → (lowest l ≡ None → l ≡ []) → Low (lower f o) (f ∷ l)
-low_more f l None e k n = (inl refl, λ g h. alone g (subst (λ m. In g (f ∷ m)) (n e) h))
-  where
-    alone : (g : Found) → In g (f ∷ []) → below g.string f.string ≡ false
-    alone g (inl p) = subst (λ z. below z.string f.string ≡ false) p (below_irrefl f.string)
-    alone g (inr p) = absurd p
+low_more f l None e k n = (inl refl, λ g h. let q = n e in grind (arith, below_irrefl))
 low_more f l (Some m) e k n = go (below m.string f.string) refl (k m e)
   where
     go : (b : Bool) → below m.string f.string ≡ b → Low m l → Low (cond b m f) (f ∷ l)
-    go true q h = (inr h.0, λ g i. each g i)
-      where
-        each : (g : Found) → In g (f ∷ l) → below g.string m.string ≡ false
-        each g (inl p) = subst (λ z. below z.string m.string ≡ false) p (below-asym f.string m.string q)
-        each g (inr p) = h.1 g p
-    go false q h = (inl refl, λ g i. each g i)
-      where
-        each : (g : Found) → In g (f ∷ l) → below g.string f.string ≡ false
-        each g (inl p) = subst (λ z. below z.string f.string ≡ false) p (below_irrefl f.string)
-        each g (inr p) = not_below_trans m.string g.string f.string (h.1 g p) q
+    go true q h = (inr h.0, λ g i. let w = h.1 g in grind (arith, below-asym))
+    go false q h = (inl refl, λ g i. let w = h.1 g in grind (arith, below_irrefl, not_below_trans))
 
 pub lowest_none : (l : List Found) → lowest l ≡ None → l ≡ []
 unfolding lowest
@@ -85,14 +72,10 @@ reached_on At p y x h k = grind (arith, below-trans)
 
 module _ (c : ℕ) (p y x : Bytes) where
   agrees_on : (m : PositioningMode) → agrees m c p y ≡ true → agrees m c y x ≡ true → agrees m c p x ≡ true
-  agrees_on Approximate h k = refl
-  agrees_on Generic h k = is_same (take c p) (take c x) (same_is (take c p) (take c y) h ∙ same_is (take c y) (take c x) k)
-  agrees_on Exact h k = is_same (take c p) (take c x) (same_is (take c p) (take c y) h ∙ same_is (take c y) (take c x) k)
+  agrees_on m h k = grind (arith, is_same, same_is)
 
   agrees_back : (m : PositioningMode) → agrees m c p y ≡ true → agrees m c p x ≡ true → agrees m c y x ≡ true
-  agrees_back Approximate h k = refl
-  agrees_back Generic h k = is_same (take c y) (take c x) (sym (same_is (take c p) (take c y) h) ∙ same_is (take c p) (take c x) k)
-  agrees_back Exact h k = is_same (take c y) (take c x) (sym (same_is (take c p) (take c y) h) ∙ same_is (take c p) (take c x) k)
+  agrees_back m h k = grind (arith, is_same, same_is)
 
 module _ (o : Entry) (f : Found) (x : Bytes) (at : within o f.string ≡ true) where
   -- past a string of the subset stand only strings of it
