@@ -1,7 +1,6 @@
 // What an open may do and tolerates, and how a position is meant: each by its code.
 ghost use Rattle.std.specs.Prelude.{◌≡◌, ◌&&◌, ◌||◌};
-ghost use Rattle.std.specs.Option.{ok_or};
-ghost use Rattle.file_rules.specs.Modes.{access_of, exclusion_of, positioning_of, is_exclusive, is_protected, may_write, excluding, ExclusionSymmetric};
+ghost use Rattle.file_rules.specs.Modes.{access_of, exclusion_of, positioning_of, DecodesBy, is_exclusive, is_protected, may_write, excluding, ExclusionSymmetric};
 
 #[derive(Clone, Copy, PartialEq, Eq, Debug)]
 pub enum AccessMode {
@@ -31,7 +30,7 @@ pub struct UnknownCode(pub usize);
 impl TryFrom<usize> for AccessMode {
     type Error = UnknownCode;
 
-    ghost try_from_gives = { λ code r. r ≡ ok_or (access_of code) (record { 0 = code }) };
+    ghost try_from_gives = { DecodesBy access_of };
 
     fn try_from(code: usize) -> Result<AccessMode, UnknownCode> {
         match code {
@@ -47,7 +46,7 @@ impl TryFrom<usize> for AccessMode {
 impl TryFrom<usize> for ExclusionMode {
     type Error = UnknownCode;
 
-    ghost try_from_gives = { λ code r. r ≡ ok_or (exclusion_of code) (record { 0 = code }) };
+    ghost try_from_gives = { DecodesBy exclusion_of };
 
     fn try_from(code: usize) -> Result<ExclusionMode, UnknownCode> {
         match code {
@@ -62,7 +61,7 @@ impl TryFrom<usize> for ExclusionMode {
 impl TryFrom<usize> for PositioningMode {
     type Error = UnknownCode;
 
-    ghost try_from_gives = { λ code r. r ≡ ok_or (positioning_of code) (record { 0 = code }) };
+    ghost try_from_gives = { DecodesBy positioning_of };
 
     fn try_from(code: usize) -> Result<PositioningMode, UnknownCode> {
         match code {
