@@ -2,21 +2,19 @@
 use Rattle.std.proofs.Common.{◌≡◌, ℕ, Bool, true, false, ◌&&◌, ◌||◌, eqb, List, [], ◌∷◌, Some, None, Option, sym, refl, ap, ◌∙◌, subst, arith}
 use Rattle.std.proofs.lemmas.Bool.{and_parts, eqb-true, not-false}
 use Rattle.std.proofs.lemmas.Bool.Decides.{nat_tests}
-use Rattle.std.specs.Option.{option_map}
 use Rattle.std.specs.List.{AllByRecursion}
 use Rattle.byte_strings.specs.Bytes.{Bytes, same}
 use Rattle.byte_strings.proofs.TotalOrder.{same_cases, is_same}
 use Rattle.storage.specs.Pairs.{under}
 use Rattle.storage.proofs.OwnPair.{placed_here, placed_elsewhere, replaced_elsewhere, removed_elsewhere}
-use Rattle.file_rules.specs.declared.fault.CallFault.{CallFault}
 use Rattle.file_rules.specs.Calls.{Call, READ, READUPDATE, LOCKREC, Answer, Close, UnlockFile, LockRec, UnlockRec, is, reads, number, count, buffer}
 use Rattle.file_rules.specs.Checks.{given, anothers}
 use Rattle.file_rules.specs.Descriptions.{Description}
-use Rattle.file_rules.specs.Files.{Entry, PlainFile, entry_of, own}
+use Rattle.file_rules.specs.Files.{PlainFile, entry_of, own}
 use Rattle.file_rules.specs.Keys.{key_in_question, written_under, written}
 use Rattle.file_rules.specs.Refusals.{refusal}
 use Rattle.file_rules.specs.Steps.{Event, moved_to, lock_taken, lock_released, read_next, effect, step, event, trace}
-use Rattle.file_rules.specs.Subsets.{Found, subset, lowest, next_record}
+use Rattle.file_rules.specs.Subsets.{Found, next_record}
 use Rattle.file_laws.specs.Events.{locks}
 use Rattle.file_laws.specs.Locks.{releases, Spared, LockLaw}
 use Rattle.file_laws.specs.Sound.{Sound}
@@ -61,7 +59,9 @@ next_in_question d s n c b κ e h =
     let t = took d s n c b p.0 p.1 e in
     let left : entry_of (step d s (READ n c b)).0 n ≡ Some (moved_to p.0 t.got) = ap (λ z. entry_of z n) t.after ∙ numbered-same s.entries n (Some (moved_to p.0 t.got)) open-now in
     let w = own_is (step d s (READ n c b)).0 n (moved_to p.0 t.got) left in
-    ap (λ z. option_map (λ (f : Found). f.key) (lowest (subset d s.pairs z))) (own_is s n p.0 p.1) ∙ ap (option_map (λ (f : Found). f.key)) t.hit ∙ sym (ap (λ (u : Entry). u.current) w) ∙ h
+    let hit = t.hit in
+    let mine = own_is s n p.0 p.1 in
+    grind arith
 
 current_in_question : (d : Description) (s : PlainFile) (n c : ℕ) (b κ : Bytes) → refusal d s (READUPDATE n c b) ≡ None → (own (step d s (READUPDATE n c b)).0 n).current ≡ Some κ → key_in_question d s (READUPDATE n c b) ≡ Some κ
 unfolding effect key_in_question
@@ -77,12 +77,10 @@ spared : (d : Description) (s : PlainFile) (c : Call) (n : ℕ) (κ : Bytes) →
 spared d s c n κ h a = record {
   unread = λ i e. let p = and_parts _ _ i in let z = accepted d s c (eqb-true _ _ p.1) in untouched d s c n κ h a (clear d s c z) (read_in_question d s c κ p.0 z e);
   unwritten = λ i e. let p = and_parts _ _ i in untouched d s c n κ h a (clear d s c (accepted d s c (eqb-true _ _ p.1))) e;
-  unchanged = go (refusal d s c) refl;
+  unchanged =
+      let kept : refusal d s c ≡ None → under κ (effect d s c).0.pairs ≡ under κ s.pairs = λ e. effect_spares d s c κ (untouched d s c n κ h a (clear d s c e)) in
+      grind (arith, refused_step, accepted_step);
 }
-  where
-    go : (r : Option CallFault) → refusal d s c ≡ r → under κ (step d s c).0.pairs ≡ under κ s.pairs
-    go (Some r) e = ap (λ (z : PlainFile × Answer). under κ z.0.pairs) (refused_step d s c r e)
-    go None e = ap (λ (z : PlainFile × Answer). under κ z.0.pairs) (accepted_step d s c e) ∙ effect_spares d s c κ (untouched d s c n κ h a (clear d s c e))
 
 -- ---- the lock stays
 

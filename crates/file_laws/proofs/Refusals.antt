@@ -1,7 +1,6 @@
 -- What an accepted call has passed, and which refusal has which number. Assumes nothing.
-use Rattle.std.proofs.Common.{◌≡◌, ◌≤◌, Bool, true, false, not, ◌&&◌, ◌||◌, List, [], ◌∷◌, length, is_some, Some, None, sym, ap, true≢false, arith}
+use Rattle.std.proofs.Common.{◌≡◌, ◌≤◌, Bool, true, false, ◌&&◌, ◌||◌, List, [], ◌∷◌, length, is_some, Some, None, sym, ap, true≢false, arith}
 use Rattle.std.proofs.lemmas.Bool.Decides.{nat_tests}
-use Rattle.std.proofs.lemmas.Bool.{or_parts, and_parts, not-false, leb-true}
 use Rattle.std.specs.List.{AllByRecursion}
 use Rattle.storage.specs.Checks.{first}
 use Rattle.file_rules.specs.declared.fault.CallFault.{CallFault}
@@ -72,17 +71,14 @@ clear d s c h =
     }
 
 module _ (d : Description) (s : PlainFile) (c : Call) (k : Clear d s c) where
-  in_range : ((1 ≤ number c) × (number c ≤ 8))
-  in_range = let p = and_parts _ _ (not-false _ (or_parts _ _ k.opened).0) in (leb-true _ _ p.0, leb-true _ _ p.1)
-
   pub low : 1 ≤ number c
-  low = in_range.0
+  low = let h = k.opened in grind (arith, nat_tests)
 
   pub high : number c ≤ 8
-  high = in_range.1
+  high = let h = k.opened in grind (arith, nat_tests)
 
   pub is_open : is Open c ≡ false → is_some (entry_of s (number c)) ≡ true
-  is_open e = not-false _ (and_second _ _ (ap not e) (or_parts _ _ k.opened).1)
+  is_open e = let h = k.opened in grind arith
 
   pub roomy : count c ≤ length (buffer c)
   roomy = let h = k.buffered in grind (arith, nat_tests)

@@ -63,8 +63,7 @@ module _ (d : Description) (n : ℕ) (o : Entry) (s : PlainFile) (e : Event) (es
   }
     where
       go : (κ x : Bytes) → within o x ≡ true → Keeps d o.path κ x s → Keeps d o.path κ x e.after × AllByRecursion (λ e. Keeps d o.path κ x e.after) es → (exhausts n e ≡ true) ⊎ (exhausted n es ≡ true) → times x (strings_read n es) ≡ 1
-      go κ x w p a (inl q) = let f = kept_found d s o κ x w p in absurd (subst (In f.0) (lowest_none (subset d s.pairs o) (k q)) f.1)
-      go κ x w p a (inr q) = h.whole q κ x w a.0 a.1
+      go κ x w p a c = let f = kept_found d s o κ x w p in let t = h.whole in grind (arith, lowest_none)
 
   -- a READ of n
   module _ (f : Found) (z : delivers n e ≡ true) (left : own e.after n ≡ moved_to o f) (low : Low f (subset d s.pairs o)) where
@@ -86,8 +85,8 @@ module _ (d : Description) (n : ℕ) (o : Entry) (s : PlainFile) (e : Event) (es
       whole = λ t κ x w p a. rw (z, left) (go κ x w p a (or_cases _ _ t));
     }
       where
-        above : (κ x : Bytes) → within o x ≡ true → Keeps d o.path κ x s → same f.string x ≡ false → (b : Bool) → below f.string x ≡ b → below f.string x ≡ true
-        above κ x w p ne b q =
+        above : (κ x : Bytes) → within o x ≡ true → Keeps d o.path κ x s → same f.string x ≡ false → below f.string x ≡ true
+        above κ x w p ne =
             let g = kept_found d s o κ x w p in
             let l = low.1 g.0 g.1 in
             grind (arith, is_same, below_neither)
@@ -96,7 +95,7 @@ module _ (d : Description) (n : ℕ) (o : Entry) (s : PlainFile) (e : Event) (es
         each κ x w p a q (inl eq) =
             let t : times x (strings_read n es) ≡ 0 = times_none x (strings_read n es) (all_weaker (λ y. within (moved_to o f) y ≡ true) (λ y. below x y ≡ true) (λ y v. subst (λ u. below u y ≡ true) eq (back y v).1) (strings_read n es) h.inside) in
             rw (is_same f.string x eq, t)
-        each κ x w p a q (inr ne) = rw ne (h.whole q κ x (within-next o f x at w (above κ x w p ne (below f.string x) refl)) a.0 a.1)
+        each κ x w p a q (inr ne) = rw ne (h.whole q κ x (within-next o f x at w (above κ x w p ne)) a.0 a.1)
 
         go : (κ x : Bytes) → within o x ≡ true → Keeps d o.path κ x s → Keeps d o.path κ x e.after × AllByRecursion (λ e. Keeps d o.path κ x e.after) es → (exhausts n e ≡ true) ⊎ (exhausted n es ≡ true) → cond (same f.string x) (suc (times x (strings_read n es))) (times x (strings_read n es)) ≡ 1
         go κ x w p a (inl q) =

@@ -103,12 +103,11 @@ absent x (y ∷ ys) a =
 
 -- each list has the head of the other, and none of them further on
 heads : (x y : Bytes) (xs ys : List Bytes) → Before x xs → Before y ys → has x (y ∷ ys) ≡ true → has y (x ∷ xs) ≡ true → x ≡ y
-heads x y xs ys a b h k = go (below x y) (below y x) refl refl
-  where
-    go : (p q : Bool) → below x y ≡ p → below y x ≡ q → x ≡ y
-    go true q l m = absurd (true≢false (sym h ∙ absent x (y ∷ ys) (below_less x y l, earlier x y ys (below_less x y l) b)))
-    go false true l m = absurd (true≢false (sym k ∙ absent y (x ∷ xs) (below_less y x m, earlier y x xs (below_less y x m) a)))
-    go false false l m = below_neither x y l m
+heads x y xs ys a b h k =
+    let l : below x y ≡ true → has x (y ∷ ys) ≡ false = λ l. absent x (y ∷ ys) (below_less x y l, earlier x y ys (below_less x y l) b) in
+    let m : below y x ≡ true → has y (x ∷ xs) ≡ false = λ l. absent y (x ∷ xs) (below_less y x l, earlier y x xs (below_less y x l) a) in
+    let e = below_neither x y in
+    grind arith
 
 tails : (x : Bytes) (xs ys : List Bytes) → Before x xs → Before x ys → ((z : Bytes) → has z (x ∷ xs) ≡ has z (x ∷ ys)) → (z : Bytes) → has z xs ≡ has z ys
 tails x xs ys a b h z = let k = h z in grind (arith, same_is, absent)

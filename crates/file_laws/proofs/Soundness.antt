@@ -10,7 +10,7 @@ use Rattle.storage.specs.Primary.{no_room}
 use Rattle.storage.proofs.Figures.{length-placed, length-replaced}
 use Rattle.storage.proofs.OwnPair.{placed_ascending, replaced_ascending, removed_ascending}
 use Rattle.file_rules.specs.declared.fault.CallFault.{CallFault}
-use Rattle.file_rules.specs.Calls.{Call, OPEN, CLOSE, KEYPOSITION, READ, READUPDATE, WRITE, WRITEUPDATE, LOCKFILE, UNLOCKFILE, LOCKREC, UNLOCKREC, LOCKINFO, Answer}
+use Rattle.file_rules.specs.Calls.{Call, OPEN, CLOSE, KEYPOSITION, READ, READUPDATE, WRITE, WRITEUPDATE, LOCKFILE, UNLOCKFILE, LOCKREC, UNLOCKREC, LOCKINFO}
 use Rattle.file_rules.specs.Checks.{given, cuts_key, clash_under}
 use Rattle.file_rules.specs.Descriptions.{Description, key_len, shape_of}
 use Rattle.file_rules.specs.Files.{Entry, PlainFile, entry_of, own, with_entry, with_pairs, with_locks}
@@ -235,5 +235,5 @@ pub stays_sound : StaysSound
 stays_sound d s c h = go (refusal d s c) refl
   where
     go : (r : Option CallFault) → refusal d s c ≡ r → Sound d (step d s c).0
-    go (Some r) e = subst (λ (z : PlainFile × Answer). Sound d z.0) (sym (refused_step d s c r e)) h
-    go None e = subst (λ (z : PlainFile × Answer). Sound d z.0) (sym (accepted_step d s c e)) (effect_sound d s c h (clear d s c e))
+    go (Some r) e = rw (refused_step d s c r e) h
+    go None e = rw (accepted_step d s c e) (effect_sound d s c h (clear d s c e))

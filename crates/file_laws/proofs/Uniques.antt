@@ -6,13 +6,12 @@ use Rattle.byte_strings.proofs.TotalOrder.{is_same, same_cases, same-flip}
 use Rattle.storage.specs.Pairs.{under, placed, replaced, without}
 use Rattle.storage.proofs.OwnPair.{placed_here, replaced_here, removed_here, placed_elsewhere, replaced_elsewhere, removed_elsewhere}
 use Rattle.file_rules.specs.declared.description.AlternateKey.{AlternateKey}
-use Rattle.file_rules.specs.Checks.{given, held_elsewhere, shares, lowest_path}
+use Rattle.file_rules.specs.Checks.{held_elsewhere, shares, lowest_path}
 use Rattle.file_rules.specs.Descriptions.{nth_key}
 use Rattle.file_rules.specs.Loads.{any_shares}
 use Rattle.file_rules.specs.Paths.{value}
 use Rattle.file_laws.specs.Sound.{UniqueOnce}
 use Rattle.file_laws.proofs.Members.{In, in_from_under}
-use Rattle.file_laws.proofs.Refusals.{and_second}
 
 -- where no path is named, no key passes
 pub none_passes : (t : AlternateKey → Bool) (ks : List AlternateKey) (i j : ℕ) (k : AlternateKey) → is_some (lowest_path i ks t) ≡ false → nth_key ks j ≡ Some k → t k ≡ false
@@ -28,8 +27,7 @@ module _ (k : AlternateKey) (κ v : Bytes) where
 -- the record r under κ shares no value, so no other record has one of its values
 shares_none : (k : AlternateKey) (ps : List (Bytes × Bytes)) (κ η r t v : Bytes) → shares ps κ r k ≡ false → k.unique ≡ true → value k r ≡ Some v → under η ps ≡ Some t → value k t ≡ Some v → same κ η ≡ false → ⊥
 shares_none k ps κ η r t v h u e p q o =
-    let f : held_elsewhere k κ v ps ≡ false = ap (λ z. given z (λ w. held_elsewhere k κ w ps)) (sym e) ∙ and_second _ _ u h in
-    elsewhere_none k κ v ps (η, t) f (in_from_under η t ps p) q (same-flip κ η o)
+    elsewhere_none k κ v ps (η, t) (grind arith) (in_from_under η t ps p) q (same-flip κ η o)
 
 -- ---- one record changes
 
