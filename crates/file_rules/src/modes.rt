@@ -32,7 +32,7 @@ impl TryFrom<usize> for AccessMode {
 
     ghost try_from_gives = { DecodesBy access_of };
 
-    fn try_from(code: usize) -> Result<AccessMode, UnknownCode> {
+    fn try_from(code: usize) -> Result<Self, UnknownCode> {
         match code {
             0 => Ok(AccessMode::ReadWrite),
             1 => Ok(AccessMode::ReadOnly),
@@ -48,7 +48,7 @@ impl TryFrom<usize> for ExclusionMode {
 
     ghost try_from_gives = { DecodesBy exclusion_of };
 
-    fn try_from(code: usize) -> Result<ExclusionMode, UnknownCode> {
+    fn try_from(code: usize) -> Result<Self, UnknownCode> {
         match code {
             0 => Ok(ExclusionMode::Shared),
             1 => Ok(ExclusionMode::Exclusive),
@@ -63,7 +63,7 @@ impl TryFrom<usize> for PositioningMode {
 
     ghost try_from_gives = { DecodesBy positioning_of };
 
-    fn try_from(code: usize) -> Result<PositioningMode, UnknownCode> {
+    fn try_from(code: usize) -> Result<Self, UnknownCode> {
         match code {
             0 => Ok(PositioningMode::Approximate),
             1 => Ok(PositioningMode::Generic),
