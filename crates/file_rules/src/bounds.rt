@@ -90,6 +90,7 @@ fn all_fit(keys: &[AlternateKey], longest: usize) -> bool
     keys.iter().all(|key| key.fits(longest))
 }
 
+// A loop, since a chain over `enumerate` and `all` leaves `returns` open: "`search` gave up at one of its limits".
 fn specifiers_differ(keys: &[AlternateKey]) -> bool
     ensures { result ≡ specifiers_differ keys.now }
 {
