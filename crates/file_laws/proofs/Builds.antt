@@ -1,5 +1,6 @@
 -- The fresh key build is what it says, and a record that comes, goes or changes alters it by its own rows. Assumes nothing.
-use Rattle.std.proofs.Common.{◌≡◌, ◌-◌, Bool, true, false, not, ◌&&◌, ◌||◌, ◌⊎◌, List, [], length, drop, is_some, Some, None, Option, sym, refl, ap, ◌∙◌, inl, inr, ⊎_elim, true≢false, arith}
+use Rattle.std.proofs.Common.{◌≡◌, ◌-◌, Bool, true, false, not, ◌&&◌, ◌||◌, ◌⊎◌, List, [], length, drop, is_some, Some, None, Option, sym, ap, ◌∙◌, inl, inr, ⊎_elim, true≢false, arith}
+use Rattle.std.proofs.Math.Bool.{and-true}
 use Rattle.std.specs.List.{AllByRecursion}
 use Rattle.byte_strings.specs.Bytes.{Bytes, same}
 use Rattle.byte_strings.proofs.TotalOrder.{is_same, same_cases}
@@ -53,30 +54,18 @@ module _ (ks : List AlternateKey) (κ x : Bytes) where
   own_row (Some r) ps e h = record { key = κ; bytes = r; present = e; one_of_its = h }
 
   own_row_ends : (o : Option Bytes) → has x (rows_under ks κ o) ≡ true → drop (length x - length κ) x ≡ κ
-  own_row_ends None h = absurd (true≢false (sym h))
-  own_row_ends (Some r) h = row_ends ks κ r x h
+  own_row_ends o h = grind (arith, row_ends)
 
   -- a row of a present record is a row under κ, or of a record elsewhere
   here_or_elsewhere : (o : Option Bytes) (ps : List (Bytes × Bytes)) → under κ ps ≡ o → (w : OfRecord ks ps x) → (has x (rows_under ks κ o) ≡ true) ⊎ (same κ w.key ≡ false)
-  here_or_elsewhere o ps e w = ⊎_elim (λ s. inl (here s)) inr (same_cases κ w.key)
-    where
-      here : κ ≡ w.key → has x (rows_under ks κ o) ≡ true
-      here s =
-          let i : o ≡ Some w.bytes = sym e ∙ (ap (λ k. under k ps) s ∙ w.present) in
-          (λ j. has x (rows_under ks (s j) (i j))) ∙ w.one_of_its
+  here_or_elsewhere o ps e w = let c = same_cases κ w.key in grind arith
 
   -- and the record elsewhere has a key as long as κ, so that its rows are no rows under κ
   elsewhere : (o : Option Bytes) (ps : List (Bytes × Bytes)) → AllByRecursion (λ p. length p.0 ≡ length κ) ps → (w : OfRecord ks ps x) → same κ w.key ≡ false → has x (rows_under ks κ o) ≡ false
-  elsewhere o ps long w other = go (has x (rows_under ks κ o)) refl
-    where
-      as_long : length w.key ≡ length κ
-      as_long = all_in (λ p. length p.0 ≡ length κ) (w.key, w.bytes) ps long (in_from_under w.key w.bytes ps w.present)
-
-      go : (b : Bool) → has x (rows_under ks κ o) ≡ b → b ≡ false
-      go true h =
-          let s : κ ≡ w.key = sym (own_row_ends o h) ∙ (ap (λ n. drop (length x - n) x) (sym as_long) ∙ row_ends ks w.key w.bytes x w.one_of_its) in
-          absurd (true≢false (sym (is_same κ w.key s) ∙ other))
-      go false h = refl
+  elsewhere o ps long w other =
+      let as_long : length w.key ≡ length κ = all_in (λ p. length p.0 ≡ length κ) (w.key, w.bytes) ps long (in_from_under w.key w.bytes ps w.present) in
+      let ends = row_ends ks w.key w.bytes x w.one_of_its in
+      grind (arith, own_row_ends, is_same)
 
 -- the rows after are the new and those before that are not old
 balance : (after new before old : Bool) → (new ≡ true → after ≡ true) → (after ≡ true → (new ≡ true) ⊎ ((before ≡ true) × (old ≡ false))) → (before ≡ true → (old ≡ true) ⊎ (after ≡ true)) → after ≡ (new || (before && not old))
@@ -104,10 +93,6 @@ module _ (d : Description) (κ : Bytes) (old new : Option Bytes) (ps qs : List (
       moved : (ps qs : List (Bytes × Bytes)) (w : OfRecord ks ps x) → under w.key qs ≡ under w.key ps → OfRecord ks qs x
       moved ps qs w e = record { key = w.key; bytes = w.bytes; present = e ∙ w.present; one_of_its = w.one_of_its }
 
-and_true : (b : Bool) → (b && true) ≡ b
-and_true true = refl
-and_true false = refl
-
 pub build_law : (d : Description) → BuildLaw d
 build_law d =
     record {
@@ -116,7 +101,7 @@ build_law d =
       places =
           λ κ r ps like none x.
           rows_change d κ None (Some r) ps (placed κ r ps) like (placed_ascending κ r ps like.ordered none) none (placed_here κ r ps none) (λ η o. placed_elsewhere κ η o r ps) x
-          ∙ ap (λ b. has x (record_rows d.alternates κ r) || b) (and_true (has x (fresh_rows d ps)));
+          ∙ ap (λ b. has x (record_rows d.alternates κ r) || b) (and-true (has x (fresh_rows d ps)));
       removes =
           λ κ r ps like e x.
           rows_change d κ (Some r) None ps (without κ ps) like (removed_ascending κ ps like.ordered) e (removed_here κ ps) (λ η o. removed_elsewhere κ η o ps) x;

@@ -1,6 +1,6 @@
 -- A call that has a name has the form of that name. Assumes nothing.
-use Rattle.std.proofs.Common.{◌≡◌, true, false, ◌||◌, ◌⊎◌, sym, refl, subst, inl, inr, true≢false, arith}
-use Rattle.std.proofs.lemmas.Bool.{eqb-true, or_cases}
+use Rattle.std.proofs.Common.{◌≡◌, true, sym, refl, subst, true≢false, arith}
+use Rattle.std.proofs.lemmas.Bool.{eqb-true}
 use Rattle.file_rules.specs.Calls.{Call, OPEN, CLOSE, KEYPOSITION, READ, READUPDATE, WRITE, WRITEUPDATE, LOCKFILE, UNLOCKFILE, LOCKREC, UNLOCKREC, LOCKINFO, CallName, Open, Close, KeyPosition, Read, ReadUpdate, Write, WriteUpdate, LockFile, UnlockFile, LockRec, UnlockRec, LockInfo, Opening, Positioning, name, code, is, reads, number, count, buffer}
 
 abbrev pub Form : CallName → Call → Type 0
@@ -39,12 +39,6 @@ form m c i = subst (λ z. Form z c) (same_name (name c) m (eqb-true _ _ i)) (own
 
 -- what holds of READ and of READUPDATE with a call's number, count and buffer holds of a read
 pub by_read : (P : Call → Type 0) (c : Call) → reads c ≡ true → P (READ (number c) (count c) (buffer c)) → P (READUPDATE (number c) (count c) (buffer c)) → P c
-by_read P c i next current = go (or_cases _ _ i)
-  where
-    go : (is Read c ≡ true) ⊎ ((is ReadUpdate c || false) ≡ true) → P c
-    go (inl r) = subst P (sym (form Read c r)) next
-    go (inr r) = subst P (sym (form ReadUpdate c (last (or_cases _ _ r)))) current
-      where
-        last : (is ReadUpdate c ≡ true) ⊎ (false ≡ true) → is ReadUpdate c ≡ true
-        last (inl e) = e
-        last (inr e) = absurd (true≢false (sym e))
+by_read P (READ n c b) i next current = next
+by_read P (READUPDATE n c b) i next current = current
+by_read P c i next current = absurd (true≢false (sym i))

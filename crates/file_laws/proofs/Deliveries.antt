@@ -1,6 +1,6 @@
 -- The law of deliveries. Assumes nothing.
-use Rattle.std.proofs.Common.{◌≡◌, ℕ, zero, suc, ◌+◌, ◌≤◌, min, true, List, [], ◌∷◌, ◌++◌, length, take, drop, is_some, Some, None, Option, sym, refl, ap, ◌∙◌, subst, true≢false, arith}
-use Rattle.std.proofs.lemmas.List.{length-take, length-drop, length-append, take_at, drop_at, take_all}
+use Rattle.std.proofs.Common.{◌≡◌, ℕ, ◌+◌, ◌≤◌, min, true, List, [], ◌∷◌, ◌++◌, length, take, drop, is_some, Some, None, Option, sym, refl, ap, ◌∙◌, subst, true≢false, arith}
+use Rattle.std.proofs.lemmas.List.{length-take, length-drop, length-append, take_at, take_min, drop_at, take_all}
 use Rattle.std.proofs.lemmas.Bool.{and_parts, eqb-true, not-false}
 use Rattle.byte_strings.specs.Bytes.{Bytes}
 use Rattle.storage.specs.Pairs.{under}
@@ -23,11 +23,6 @@ use Rattle.file_laws.proofs.Subsets.{subset_in, lowest_low}
 
 -- ---- the buffer
 
-take-taken : (c : ℕ) (r : Bytes) → take (length (take c r)) r ≡ take c r
-take-taken zero r = refl
-take-taken (suc c) [] = refl
-take-taken (suc c) (x ∷ r) = ap (λ t. x ∷ t) (take-taken c r)
-
 pub handed_over : (r : Bytes) (c : ℕ) (b : Bytes) → c ≤ length b → Handed r c b (delivered r c b).buffer (delivered r c b).moved
 handed_over r c b h =
     let x = take c r in
@@ -36,7 +31,7 @@ handed_over r c b h =
     subst (λ z. Handed r c b (z ++ drop (length x) b) (length x)) (sym whole) (record {
       many = m;
       size = length-append x (drop (length x) b) ∙ ap (λ k. length x + k) (length-drop (length x) b) ∙ omega arith;
-      front = take_at x (drop (length x) b) (length x) refl ∙ sym (take-taken c r);
+      front = take_at x (drop (length x) b) (length x) refl ∙ sym (ap (λ k. take k r) m ∙ take_min c r);
       rest = drop_at x (drop (length x) b) (length x) refl;
     })
 
@@ -76,11 +71,7 @@ read_of d s n c b o g at e =
 current_read : (ps : List (Bytes × Bytes)) (c : ℕ) (b : Bytes) (o : Option Bytes) → given o (λ κ. is_some (under κ ps)) ≡ true →
     (κ : Bytes) × (r : Bytes) × (o ≡ Some κ) × (under κ ps ≡ Some r) × (read_current ps c b o ≡ delivered r c b)
 current_read ps c b None h = absurd (true≢false (sym h))
-current_read ps c b (Some κ) h = go (under κ ps) refl
-  where
-    go : (u : Option Bytes) → under κ ps ≡ u → (η : Bytes) × (r : Bytes) × (Some κ ≡ Some η) × (under η ps ≡ Some r) × (read_current ps c b (Some κ) ≡ delivered r c b)
-    go None e = absurd (true≢false (sym h ∙ ap is_some e))
-    go (Some r) e = (κ, r, refl, e, rw (e, read_current))
+current_read ps c b (Some κ) h = let r = some_of (under κ ps) h in let e = r.1 in (κ, r.0, refl, e, grind arith)
 
 delivers_current : (d : Description) (s : PlainFile) (n c : ℕ) (b : Bytes) → refusal d s (READUPDATE n c b) ≡ None → Delivery n (event d s (READUPDATE n c b))
 unfolding effect key_in_question

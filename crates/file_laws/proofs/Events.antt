@@ -1,8 +1,8 @@
 -- What one event does to a file number. Assumes nothing.
-use Rattle.std.proofs.Common.{◌≡◌, ℕ, zero, suc, pred, ◌<◌, ◌≤◌, Bool, true, false, ◌⊎◌, List, [], ◌∷◌, length, set, is_some, Some, None, Option, unwrap_or, sym, refl, ap, ◌∙◌, inl, inr, true≢false, arith}
+use Rattle.std.proofs.Common.{◌≡◌, ℕ, zero, suc, pred, ◌≤◌, Bool, true, false, List, [], ◌∷◌, length, set, is_some, Some, None, Option, unwrap_or, sym, refl, ap, ◌∙◌, true≢false, arith}
 use Rattle.std.specs.Option.{option_map}
 use Rattle.std.proofs.lemmas.List.{get_or-set_same, get_or-set_other, get_or_past}
-use Rattle.std.proofs.lemmas.Bool.{both_ways, and_parts, and_from, eqb-true, eq-eqb, not-true, not-false, cases_lt}
+use Rattle.std.proofs.lemmas.Bool.{both_ways, and_parts, and_from, eqb-true, eq-eqb, cases_lt}
 use Rattle.byte_strings.specs.Bytes.{Bytes}
 use Rattle.file_rules.specs.declared.fault.CallFault.{CallFault}
 use Rattle.file_rules.specs.declared.modes.AccessMode.TheVariants.{ReadWrite}
@@ -10,7 +10,6 @@ use Rattle.file_rules.specs.declared.modes.ExclusionMode.TheVariants.{Shared}
 use Rattle.file_rules.specs.Calls.{Call, READ, Answer, CallName, Open, Close, KeyPosition, Read, is, one_of, number, count, buffer}
 use Rattle.file_rules.specs.Checks.{in_use}
 use Rattle.file_rules.specs.Descriptions.{Description}
-use Rattle.file_rules.specs.Faults.{number_of}
 use Rattle.file_rules.specs.Files.{Entry, PlainFile, numbered, entry_of, own, just_opened, with_entry}
 use Rattle.file_rules.specs.Keys.{key_in_question}
 use Rattle.file_rules.specs.Refusals.{refusal}
@@ -24,11 +23,7 @@ use Rattle.file_laws.proofs.Refusals.{nonzero, told_empty, clear, low}
 pub numbered-same : (es : List (Option Entry)) (n : ℕ) (e : Option Entry) → is_some (numbered es n) ≡ true → numbered (set es (pred n) e) n ≡ e
 unfolding numbered
 numbered-same es zero e h = absurd (true≢false (sym h))
-numbered-same es (suc n) e h = get_or-set_same es n e None (go (cases_lt n (length es)))
-  where
-    go : (n < length es) ⊎ (length es ≤ n) → n < length es
-    go (inl l) = l
-    go (inr l) = absurd (true≢false (sym h ∙ ap is_some (get_or_past es n None l)))
+numbered-same es (suc n) e h = let o = cases_lt n (length es) in grind (arith, get_or-set_same, get_or_past)
 
 pub numbered-other : (es : List (Option Entry)) (n m : ℕ) (e : Option Entry) → 1 ≤ m → (m ≡ n → ⊥) → numbered (set es (pred m) e) n ≡ numbered es n
 unfolding numbered
@@ -59,11 +54,7 @@ accepted_zero d s c h = ap (λ (z : PlainFile × Answer). z.1.number) (accepted_
 
 -- a call that answers 0 was accepted
 pub accepted : (d : Description) (s : PlainFile) (c : Call) → (step d s c).1.number ≡ 0 → refusal d s c ≡ None
-accepted d s c h = go (refusal d s c) refl
-  where
-    go : (r : Option CallFault) → refusal d s c ≡ r → refusal d s c ≡ None
-    go None e = e
-    go (Some r) e = absurd (nonzero d s c r e (sym (ap (λ (z : PlainFile × Answer). z.1.number) (refused_step d s c r e)) ∙ h))
+accepted d s c h = grind (arith, nonzero, refused_step)
 
 pub saw_parts : (m : CallName) (n a : ℕ) (e : Event) → saw m n a e ≡ true → (is m e.call ≡ true) × (number e.call ≡ n) × (e.answer.number ≡ a)
 saw_parts m n a e h =
@@ -116,7 +107,7 @@ unfolding effect key_in_question next_record
 took d s n count b o h e = go (next_record d s n) refl
   where
     go : (f : Option Found) → next_record d s n ≡ f → Took d s n count b o
-    go None q = absurd (true≢false (sym (not-false _ (clear d s (READ n count b) e).left) ∙ ap (λ z. is_some (option_map (λ (f : Found). f.key) z)) q))
+    go None q = let k = clear d s (READ n count b) e in let l = k.left in grind arith
     go (Some f) q =
         let w = own_is s n o h in
         let t : step d s (READ n count b) ≡ (with_entry s n (Some (moved_to o f)), delivered f.bytes count b) = accepted_step d s (READ n count b) e ∙ ap (read_next s n count b) q ∙ ap (λ z. read_at z) w in
@@ -126,18 +117,9 @@ took d s n count b o h e = go (next_record d s n) refl
         read_at z = (with_entry s n (Some (moved_to z f)), delivered f.bytes count b)
 
 empty_next : (o : Option Found) → is_some (option_map (λ (f : Found). f.key) o) ≡ false → o ≡ None
-empty_next None h = refl
-empty_next (Some f) h = absurd (true≢false h)
+empty_next o h = grind arith
 
 -- READ answered 1 where nothing is left of the subset
 pub ended : (d : Description) (s : PlainFile) (n count : ℕ) (b : Bytes) (o : Entry) → entry_of s n ≡ Some o → (step d s (READ n count b)).1.number ≡ 1 → lowest (subset d s.pairs o) ≡ None
 unfolding key_in_question next_record
-ended d s n count b o h a = go (refusal d s (READ n count b)) refl
-  where
-    go : (r : Option CallFault) → refusal d s (READ n count b) ≡ r → lowest (subset d s.pairs o) ≡ None
-    go None e =
-        let z = accepted_zero d s (READ n count b) e in
-        absurd (omega arith)
-    go (Some r) e =
-        let z : number_of r ≡ 1 = sym (ap (λ (z : PlainFile × Answer). z.1.number) (refused_step d s (READ n count b) r e)) ∙ a in
-        ap (λ z. lowest (subset d s.pairs z)) (sym (own_is s n o h)) ∙ empty_next (next_record d s n) (not-true _ (told_empty d s (READ n count b) r e z))
+ended d s n count b o h a = grind (arith, accepted_zero, refused_step, own_is, empty_next, told_empty)

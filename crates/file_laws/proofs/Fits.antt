@@ -1,100 +1,64 @@
 -- The entries, keys and records that an accepted call makes are as long as they should be. Assumes nothing.
-use Rattle.std.proofs.Common.{◌≡◌, ℕ, zero, suc, ◌+◌, ◌-◌, ◌≤◌, min, Bool, true, false, cond, not, ◌&&◌, eqb, ltb, leb, List, [], ◌∷◌, ◌++◌, length, get_or, take, drop, Some, None, Option, refl, ap, ◌∙◌, subst, true≢false, arith}
+use Rattle.std.proofs.Common.{◌≡◌, ℕ, zero, suc, ◌-◌, ◌≤◌, min, true, false, ltb, List, [], ◌∷◌, length, take, drop, Some, Option, refl, ap, ◌∙◌, subst, arith}
+use Rattle.std.proofs.lemmas.Bool.Decides.{nat_tests}
+use Rattle.std.proofs.lemmas.Option.{none-some, same_Some}
 use Rattle.std.proofs.lemmas.List.{length-take, length-drop, length-append}
-use Rattle.std.proofs.lemmas.Bool.{or_parts, eqb-true, ltb-false, not-false}
-use Rattle.std.specs.Option.{option_map}
+use Rattle.std.proofs.lemmas.Bool.{or_parts, ltb-false}
 use Rattle.std.specs.List.{AllByRecursion}
-use Rattle.byte_strings.specs.Bytes.{Bytes, same}
-use Rattle.storage.specs.Primary.{is_relative, number_key}
+use Rattle.byte_strings.specs.Bytes.{Bytes}
+use Rattle.storage.specs.Primary.{is_relative}
 use Rattle.file_rules.specs.declared.description.AlternateKey.{AlternateKey}
 use Rattle.file_rules.specs.declared.description.KeyField.{KeyField}
 use Rattle.file_rules.specs.declared.description.Organization.{Organization}
 use Rattle.file_rules.specs.declared.description.Organization.TheVariants.{Relative, EntrySequenced, KeySequenced}
 use Rattle.file_rules.specs.declared.modes.PositioningMode.{PositioningMode}
-use Rattle.file_rules.specs.declared.modes.PositioningMode.TheVariants.{Approximate, Generic, Exact}
 use Rattle.file_rules.specs.Calls.{Positioning}
 use Rattle.file_rules.specs.Checks.{wrong_compare, bad_position, cuts_key}
-use Rattle.file_rules.specs.Descriptions.{Description, cut, end_of, kind_of, key_len, key_length, nth_key, field_length, string_length}
+use Rattle.file_rules.specs.Descriptions.{Description, cut, end_of, kind_of, key_len, key_length, string_length}
 use Rattle.file_rules.specs.Files.{Entry, numbered}
-use Rattle.file_rules.specs.Keys.{append_key, next_number, key_by}
-use Rattle.file_rules.specs.Modes.{positioning_of}
-use Rattle.file_rules.specs.Paths.{made_of, value, alternate_string, path_string}
+use Rattle.file_rules.specs.Keys.{key_by}
+use Rattle.file_rules.specs.Paths.{value, path_string}
 use Rattle.file_rules.specs.Steps.{named_key, opened_by, positioned}
 use Rattle.file_laws.specs.Sound.{IfAny, EntryFits}
-use Rattle.file_laws.proofs.Members.{never_some, some_same}
 
 -- ---- entries
 
 pub entry_fits : (d : Description) (es : List (Option Entry)) (n : ℕ) (o : Entry) → AllByRecursion (IfAny (EntryFits d)) es → numbered es n ≡ Some o → EntryFits d o
 unfolding numbered
-entry_fits d es zero o h e = absurd (never_some o e)
-entry_fits d es (suc n) o h e = at es n h e
-  where
-    at : (es : List (Option Entry)) (n : ℕ) → AllByRecursion (IfAny (EntryFits d)) es → get_or es n None ≡ Some o → EntryFits d o
-    at [] zero h e = absurd (never_some o e)
-    at [] (suc n) h e = absurd (never_some o e)
-    at (x ∷ es) zero h e = subst (IfAny (EntryFits d)) e h.0
-    at (x ∷ es) (suc n) h e = at es n h.1 e
+entry_fits d es zero o h e = absurd (none-some o e)
+entry_fits d [] (suc n) o h e = absurd (none-some o e)
+entry_fits d (x ∷ es) (suc zero) o h e = subst (IfAny (EntryFits d)) e h.0
+entry_fits d (x ∷ es) (suc (suc n)) o h e = entry_fits d es (suc n) o h.1 e
 
 pub opened_fits : (d : Description) (a e : ℕ) → EntryFits d (opened_by a e)
 opened_fits d a e = record { path = omega arith; compare = omega arith; position = omega arith; current = tt }
 
 compare_fits : (m : PositioningMode) (field len c : ℕ) → wrong_compare m field len c ≡ false → c ≤ field
-compare_fits Approximate field len c h = let e = eqb-true c 0 (not-false _ h) in omega arith
-compare_fits Generic field len c h = let l : c ≤ min field len = ltb-false (min field len) c (or_parts (eqb c 0) (ltb (min field len) c) h).1 in omega arith
-compare_fits Exact field len c h = let e = eqb-true c field (not-false _ (or_parts _ _ h).0) in omega arith
+compare_fits m field len c h = grind (arith, nat_tests)
 
 named_fits : (d : Description) (path : ℕ) (v : Bytes) → IfAny (λ κ. length κ ≡ key_len d) (named_key d path v)
-named_fits d path v = go (eqb path 0) (eqb (length v) (key_len d)) refl
-  where
-    go : (a b : Bool) → eqb (length v) (key_len d) ≡ b → IfAny (λ κ. length κ ≡ key_len d) (cond a (cond b (Some v) None) None)
-    go true true e = eqb-true _ _ e
-    go true false e = tt
-    go false b e = tt
+named_fits d path v = grind (arith, nat_tests)
 
 pub positioned_fits : (d : Description) (o : Entry) (p : Positioning) → ltb (length d.alternates) p.path ≡ false → bad_position d p ≡ false → EntryFits d (positioned d o p)
 positioned_fits d o p h k =
     let q = or_parts _ _ k in
     record {
       path = ltb-false _ _ h;
-      compare = go (positioning_of p.mode) q.1;
+      compare = grind (arith, compare_fits);
       position = ltb-false _ _ q.0;
       current = named_fits d p.path p.value;
     }
-  where
-    go : (m : Option PositioningMode) → elim m as (λ _. Bool) [ None ↦ true | Some m ↦ wrong_compare m (field_length d p.path) (length p.value) p.compare ] ≡ false → p.compare ≤ field_length d p.path
-    go None e = absurd (true≢false e)
-    go (Some m) e = compare_fits m (field_length d p.path) (length p.value) p.compare e
 
 -- ---- path strings
 
 value_length : (k : AlternateKey) (r v : Bytes) → value k r ≡ Some v → length v ≤ k.field.len
 unfolding value
-value_length k r v h = go (leb (end_of k.field) (length r) && not (made_of k.null_byte (cut k.field r))) h
-  where
-    go : (b : Bool) → cond b (Some (cut k.field r)) None ≡ Some v → length v ≤ k.field.len
-    go true e =
-        let s = some_same (cut k.field r) v e in
-        let l = length-take k.field.len (drop k.field.offset r) in
-        subst (λ z. length z ≤ k.field.len) s (omega arith)
-    go false e = absurd (never_some v e)
+value_length k r v h = grind (arith, length-take)
 
 pub string_fits : (d : Description) (path : ℕ) (κ r x : Bytes) → length κ ≡ key_len d → path_string d path κ r ≡ Some x → length x ≤ string_length d path
 unfolding path_string
-string_fits d zero κ r x l h = let e = ap length (some_same κ x h) in omega arith
-string_fits d (suc i) κ r x l h = go (nth_key d.alternates i) h
-  where
-    go : (o : Option AlternateKey) → alternate_string o κ r ≡ Some x → length x ≤ (elim o as (λ _. ℕ) [ None ↦ 0 | Some k ↦ k.field.len ]) + key_len d
-    go None e = absurd (never_some x e)
-    go (Some k) e = at (value k r) refl e
-      where
-        at : (o : Option Bytes) → value k r ≡ o → option_map (λ v. v ++ κ) o ≡ Some x → length x ≤ k.field.len + key_len d
-        at None q e = absurd (never_some x e)
-        at (Some v) q e =
-            let s : v ++ κ ≡ x = some_same (v ++ κ) x e in
-            let m = value_length k r v q in
-            let n = length-append v κ in
-            subst (λ z. length z ≤ k.field.len + key_len d) s (omega arith)
+string_fits d zero κ r x l h = let e = ap length (same_Some κ x h) in omega arith
+string_fits d (suc i) κ r x l h = grind (arith, value_length, length-append)
 
 -- ---- new records
 
@@ -109,10 +73,6 @@ module _ (d : Description) (count : ℕ) (buffer : Bytes) (room : count ≤ leng
       ∙ omega arith
 
   pub key_fits : (g : Organization) (ps : List (Bytes × Bytes)) (named : Bytes) → cuts_key g count ≡ false → (is_relative (kind_of g) ≡ true → length named ≡ key_length g) → length (key_by g ps named (take count buffer)) ≡ key_length g
-  key_fits Relative ps named h l = go (same named append_key)
-    where
-      go : (b : Bool) → length (cond b (number_key (next_number ps)) named) ≡ 4
-      go true = refl
-      go false = l refl
+  key_fits Relative ps named h l = let k = l refl in grind arith
   key_fits EntrySequenced ps named h l = refl
   key_fits (KeySequenced f) ps named h l = cut_length f (ltb-false _ _ h)

@@ -1,22 +1,20 @@
 -- The law of locks. Assumes nothing.
-use Rattle.std.proofs.Common.{◌≡◌, ℕ, Bool, true, false, cond, ◌&&◌, ◌||◌, eqb, ◌⊎◌, List, [], ◌∷◌, is_some, Some, None, Option, sym, refl, ap, ◌∙◌, subst, inl, inr, true≢false, arith}
-use Rattle.std.proofs.lemmas.Bool.{both_ways, and_parts, eqb-true, not-false}
+use Rattle.std.proofs.Common.{◌≡◌, ℕ, Bool, true, false, ◌&&◌, ◌||◌, eqb, List, [], ◌∷◌, Some, None, Option, sym, refl, ap, ◌∙◌, subst, arith}
+use Rattle.std.proofs.lemmas.Bool.{and_parts, eqb-true, not-false}
 use Rattle.std.proofs.lemmas.Bool.Decides.{nat_tests}
-use Rattle.std.specs.Option.{option_map}
 use Rattle.std.specs.List.{AllByRecursion}
 use Rattle.byte_strings.specs.Bytes.{Bytes, same}
 use Rattle.byte_strings.proofs.TotalOrder.{same_cases, is_same}
-use Rattle.storage.specs.Pairs.{under, placed, replaced, without}
+use Rattle.storage.specs.Pairs.{under}
 use Rattle.storage.proofs.OwnPair.{placed_here, placed_elsewhere, replaced_elsewhere, removed_elsewhere}
-use Rattle.file_rules.specs.declared.fault.CallFault.{CallFault}
-use Rattle.file_rules.specs.Calls.{Call, OPEN, CLOSE, KEYPOSITION, READ, READUPDATE, WRITE, WRITEUPDATE, LOCKFILE, UNLOCKFILE, LOCKREC, UNLOCKREC, LOCKINFO, Answer, Close, Write, UnlockFile, LockRec, UnlockRec, is, reads, number, count, buffer, new_record, replaces}
+use Rattle.file_rules.specs.Calls.{Call, READ, READUPDATE, LOCKREC, Answer, Close, UnlockFile, LockRec, UnlockRec, is, reads, number, count, buffer}
 use Rattle.file_rules.specs.Checks.{given, anothers}
 use Rattle.file_rules.specs.Descriptions.{Description}
-use Rattle.file_rules.specs.Files.{Entry, PlainFile, entry_of, own}
+use Rattle.file_rules.specs.Files.{PlainFile, entry_of, own}
 use Rattle.file_rules.specs.Keys.{key_in_question, written_under, written}
 use Rattle.file_rules.specs.Refusals.{refusal}
 use Rattle.file_rules.specs.Steps.{Event, moved_to, lock_taken, lock_released, read_next, effect, step, event, trace}
-use Rattle.file_rules.specs.Subsets.{Found, subset, lowest, next_record}
+use Rattle.file_rules.specs.Subsets.{Found, next_record}
 use Rattle.file_laws.specs.Events.{locks}
 use Rattle.file_laws.specs.Locks.{releases, Spared, LockLaw}
 use Rattle.file_laws.specs.Sound.{Sound}
@@ -41,16 +39,7 @@ untouched d s c n κ h a k e =
 
 spared_by_write : (c : Call) (ps : List (Bytes × Bytes)) (o : Option Bytes) (κ : Bytes) → (o ≡ Some κ → ⊥) → under κ (written_under c ps o) ≡ under κ ps
 spared_by_write c ps None κ x = refl
-spared_by_write c ps (Some η) κ x = go (same_cases η κ)
-  where
-    go : (η ≡ κ) ⊎ (same η κ ≡ false) → under κ (written_under c ps (Some η)) ≡ under κ ps
-    go (inl e) = absurd (x (ap Some e))
-    go (inr o) = by_kind (is Write c) (replaces c)
-      where
-        by_kind : (b r : Bool) → under κ (cond b (placed η (new_record c) ps) (cond r (replaced η (new_record c) ps) (without η ps))) ≡ under κ ps
-        by_kind true r = placed_elsewhere η κ o (new_record c) ps
-        by_kind false true = replaced_elsewhere η κ o (new_record c) ps
-        by_kind false false = removed_elsewhere η κ o ps
+spared_by_write c ps (Some η) κ x = let o = same_cases η κ in grind (arith, placed_elsewhere, replaced_elsewhere, removed_elsewhere)
 
 read_pairs : (s : PlainFile) (n c : ℕ) (b : Bytes) (o : Option Found) → (read_next s n c b o).0.pairs ≡ s.pairs
 read_pairs s n c b None = refl
@@ -58,18 +47,7 @@ read_pairs s n c b (Some f) = refl
 
 effect_spares : (d : Description) (s : PlainFile) (c : Call) (κ : Bytes) → (key_in_question d s c ≡ Some κ → ⊥) → under κ (effect d s c).0.pairs ≡ under κ s.pairs
 unfolding effect written
-effect_spares d s (OPEN n a e) κ x = refl
-effect_spares d s (CLOSE n) κ x = refl
-effect_spares d s (KEYPOSITION n p m k c v) κ x = refl
-effect_spares d s (READ n c b) κ x = ap (under κ) (read_pairs s n c b (next_record d s n))
-effect_spares d s (READUPDATE n c b) κ x = refl
-effect_spares d s (WRITE n c b) κ x = spared_by_write (WRITE n c b) s.pairs (key_in_question d s (WRITE n c b)) κ x
-effect_spares d s (WRITEUPDATE n c b) κ x = spared_by_write (WRITEUPDATE n c b) s.pairs (key_in_question d s (WRITEUPDATE n c b)) κ x
-effect_spares d s (LOCKFILE n) κ x = refl
-effect_spares d s (UNLOCKFILE n) κ x = refl
-effect_spares d s (LOCKREC n) κ x = refl
-effect_spares d s (UNLOCKREC n) κ x = refl
-effect_spares d s (LOCKINFO n b) κ x = refl
+effect_spares d s c κ x = grind (arith, read_pairs, spared_by_write)
 
 -- ---- what is read
 
@@ -81,7 +59,9 @@ next_in_question d s n c b κ e h =
     let t = took d s n c b p.0 p.1 e in
     let left : entry_of (step d s (READ n c b)).0 n ≡ Some (moved_to p.0 t.got) = ap (λ z. entry_of z n) t.after ∙ numbered-same s.entries n (Some (moved_to p.0 t.got)) open-now in
     let w = own_is (step d s (READ n c b)).0 n (moved_to p.0 t.got) left in
-    ap (λ z. option_map (λ (f : Found). f.key) (lowest (subset d s.pairs z))) (own_is s n p.0 p.1) ∙ ap (option_map (λ (f : Found). f.key)) t.hit ∙ sym (ap (λ (u : Entry). u.current) w) ∙ h
+    let hit = t.hit in
+    let mine = own_is s n p.0 p.1 in
+    grind arith
 
 current_in_question : (d : Description) (s : PlainFile) (n c : ℕ) (b κ : Bytes) → refusal d s (READUPDATE n c b) ≡ None → (own (step d s (READUPDATE n c b)).0 n).current ≡ Some κ → key_in_question d s (READUPDATE n c b) ≡ Some κ
 unfolding effect key_in_question
@@ -97,12 +77,10 @@ spared : (d : Description) (s : PlainFile) (c : Call) (n : ℕ) (κ : Bytes) →
 spared d s c n κ h a = record {
   unread = λ i e. let p = and_parts _ _ i in let z = accepted d s c (eqb-true _ _ p.1) in untouched d s c n κ h a (clear d s c z) (read_in_question d s c κ p.0 z e);
   unwritten = λ i e. let p = and_parts _ _ i in untouched d s c n κ h a (clear d s c (accepted d s c (eqb-true _ _ p.1))) e;
-  unchanged = go (refusal d s c) refl;
+  unchanged =
+      let kept : refusal d s c ≡ None → under κ (effect d s c).0.pairs ≡ under κ s.pairs = λ e. effect_spares d s c κ (untouched d s c n κ h a (clear d s c e)) in
+      grind (arith, refused_step, accepted_step);
 }
-  where
-    go : (r : Option CallFault) → refusal d s c ≡ r → under κ (step d s c).0.pairs ≡ under κ s.pairs
-    go (Some r) e = ap (λ (z : PlainFile × Answer). under κ z.0.pairs) (refused_step d s c r e)
-    go None e = ap (λ (z : PlainFile × Answer). under κ z.0.pairs) (accepted_step d s c e) ∙ effect_spares d s c κ (untouched d s c n κ h a (clear d s c e))
 
 -- ---- the lock stays
 
@@ -112,27 +90,11 @@ lets_go s n κ c = is Close c || is UnlockFile c || (is UnlockRec c && given (ow
 
 taken_held : (m n : ℕ) (κ : Bytes) (o : Option Bytes) (ls : List (Bytes × ℕ)) → under κ ls ≡ Some n → under κ (lock_taken m o ls) ≡ Some n
 taken_held m n κ None ls h = h
-taken_held m n κ (Some η) ls h = go (under η ls) refl
-  where
-    go : (u : Option ℕ) → under η ls ≡ u → under κ (lock_taken m (Some η) ls) ≡ Some n
-    go None e = rw (e, lock_taken) (at (same_cases η κ))
-      where
-        at : (η ≡ κ) ⊎ (same η κ ≡ false) → under κ (placed η m ls) ≡ Some n
-        at (inl s) = absurd (true≢false (ap is_some (sym h ∙ (ap (λ z. under z ls) (sym s) ∙ e))))
-        at (inr o) = placed_elsewhere η κ o m ls ∙ h
-    go (Some holder) e = rw (e, lock_taken) h
+taken_held m n κ (Some η) ls h = let o = same_cases η κ in grind (arith, placed_elsewhere)
 
 released_held : (m n : ℕ) (κ : Bytes) (o : Option Bytes) (ls : List (Bytes × ℕ)) → under κ ls ≡ Some n → (m ≡ n → given o (same κ) ≡ true → ⊥) → under κ (lock_released m o ls) ≡ Some n
 released_held m n κ None ls h x = h
-released_held m n κ (Some η) ls h x = go (anothers m (under η ls)) refl
-  where
-    go : (b : Bool) → anothers m (under η ls) ≡ b → under κ (cond b ls (without η ls)) ≡ Some n
-    go true e = h
-    go false e = at (same_cases η κ)
-      where
-        at : (η ≡ κ) ⊎ (same η κ ≡ false) → under κ (without η ls) ≡ Some n
-        at (inl s) = absurd (x (not_anothers n m (ap (anothers m) (sym (ap (λ z. under z ls) s ∙ h)) ∙ e)) (is_same κ η (sym s)))
-        at (inr o) = removed_elsewhere η κ o ls ∙ h
+released_held m n κ (Some η) ls h x = let o = same_cases η κ in grind (arith, nat_tests, is_same, removed_elsewhere)
 
 read_locks : (s : PlainFile) (n c : ℕ) (b : Bytes) (o : Option Found) → (read_next s n c b o).0.record_locks ≡ s.record_locks
 read_locks s n c b None = refl
@@ -140,42 +102,18 @@ read_locks s n c b (Some f) = refl
 
 effect_held : (d : Description) (s : PlainFile) (c : Call) (n : ℕ) (κ : Bytes) → under κ s.record_locks ≡ Some n → (number c ≡ n → lets_go s n κ c ≡ true → ⊥) → under κ (effect d s c).0.record_locks ≡ Some n
 unfolding effect
-effect_held d s (OPEN m a e) n κ h x = h
-effect_held d s (CLOSE m) n κ h x = under-others κ n m s.record_locks (λ e. x e refl) h
-effect_held d s (KEYPOSITION m p q t c v) n κ h x = h
-effect_held d s (READ m c b) n κ h x = ap (under κ) (read_locks s m c b (next_record d s m)) ∙ h
-effect_held d s (READUPDATE m c b) n κ h x = h
-effect_held d s (WRITE m c b) n κ h x = h
-effect_held d s (WRITEUPDATE m c b) n κ h x = h
-effect_held d s (LOCKFILE m) n κ h x = h
-effect_held d s (UNLOCKFILE m) n κ h x = under-others κ n m s.record_locks (λ e. x e refl) h
-effect_held d s (LOCKREC m) n κ h x = taken_held m n κ (own s m).current s.record_locks h
-effect_held d s (UNLOCKREC m) n κ h x = released_held m n κ (own s m).current s.record_locks h (λ e g. x e (ap (λ z. given (own s z).current (same κ)) (sym e) ∙ g))
-effect_held d s (LOCKINFO m b) n κ h x = h
+effect_held d s c n κ h x = grind (arith, under-others, read_locks, taken_held, released_held)
 
 released : (e : Event) (n : ℕ) (κ : Bytes) → number e.call ≡ n → e.answer.number ≡ 0 → lets_go e.before n κ e.call ≡ true → releases n κ e ≡ true
 released e n κ m z h = grind (arith, nat_tests)
 
 stays : (d : Description) (s : PlainFile) (c : Call) (n : ℕ) (κ : Bytes) → under κ s.record_locks ≡ Some n → releases n κ (event d s c) ≡ false → under κ (step d s c).0.record_locks ≡ Some n
-stays d s c n κ h x = go (refusal d s c) refl
-  where
-    go : (r : Option CallFault) → refusal d s c ≡ r → under κ (step d s c).0.record_locks ≡ Some n
-    go (Some r) e = ap (λ (z : PlainFile × Answer). under κ z.0.record_locks) (refused_step d s c r e) ∙ h
-    go None e =
-        ap (λ (z : PlainFile × Answer). under κ z.0.record_locks) (accepted_step d s c e)
-        ∙ effect_held d s c n κ h (λ m l. both_ways (releases n κ (event d s c)) x (released (event d s c) n κ m (accepted_zero d s c e) l))
+stays d s c n κ h x = let r = released (event d s c) n κ in grind (arith, refused_step, accepted_step, accepted_zero, effect_held)
 
 -- ---- the LOCKREC
 
 lock_is_taken : (n : ℕ) (κ : Bytes) (o : Option Bytes) (ls : List (Bytes × ℕ)) → o ≡ Some κ → given o (λ η. anothers n (under η ls)) ≡ false → under κ (lock_taken n o ls) ≡ Some n
-lock_is_taken n κ o ls e free = subst (λ z. under κ (lock_taken n z ls) ≡ Some n) (sym e) (go (under κ ls) refl)
-  where
-    own_or_none : anothers n (under κ ls) ≡ false
-    own_or_none = ap (λ z. given z (λ η. anothers n (under η ls))) (sym e) ∙ free
-
-    go : (u : Option ℕ) → under κ ls ≡ u → under κ (lock_taken n (Some κ) ls) ≡ Some n
-    go None q = rw (q, lock_taken) (placed_here κ n ls q)
-    go (Some m) q = rw (q, lock_taken) (q ∙ ap Some (sym (not_anothers m n (ap (anothers n) (sym q) ∙ own_or_none))))
+lock_is_taken n κ o ls e free = grind (arith, nat_tests, placed_here)
 
 lockrec_takes : (d : Description) (s : PlainFile) (n : ℕ) (κ : Bytes) → Clear d s (LOCKREC n) → (own s n).current ≡ Some κ → under κ (effect d s (LOCKREC n)).0.record_locks ≡ Some n
 unfolding effect key_in_question

@@ -1,5 +1,6 @@
 -- Members of a list: pairs and what stands under their keys, and what a filter keeps. Assumes nothing.
-use Rattle.std.proofs.Common.{◌≡◌, Bool, true, false, cond, T, ◌⊎◌, List, [], ◌∷◌, is_some, Some, None, filter, Option, sym, refl, ap, ◌∙◌, subst, inl, inr, true≢false}
+use Rattle.std.proofs.Common.{◌≡◌, Bool, true, false, T, ◌⊎◌, List, [], ◌∷◌, is_some, Some, None, filter, Option, sym, refl, ap, subst, inl, inr, true≢false, arith}
+use Rattle.std.proofs.lemmas.Option.{none-some}
 use Rattle.std.specs.Ordering.{is_lt}
 use Rattle.std.specs.List.{AllByRecursion}
 use Rattle.ordered_table.specs.Table.{is_strictly_sorted_by}
@@ -11,12 +12,6 @@ use Rattle.storage.specs.Pairs.{Ascending, keys, under}
 abbrev pub In : {A : Type 0} → A → List A → Type 0
 In x [] = ⊥
 In x (y ∷ ys) = (y ≡ x) ⊎ In x ys
-
-pub some_same : {A : Type 0} (x y : A) → Some x ≡ Some y → x ≡ y
-some_same x y h = cc
-
-pub never_some : {A : Type 0} (x : A) → None ≡ Some x → ⊥
-never_some x h = true≢false (sym (ap is_some h))
 
 pub some_of : {A : Type 0} (o : Option A) → is_some o ≡ true → (x : A) × (o ≡ Some x)
 some_of None h = absurd (true≢false (sym h))
@@ -31,16 +26,20 @@ all_in P x [] h i = absurd i
 all_in P x (y ∷ ys) h (inl e) = subst P e h.0
 all_in P x (y ∷ ys) h (inr i) = all_in P x ys h.1 i
 
+-- `All-weaker` of std, for the fact by recursion
+pub all_weaker : {A : Type 0} (P Q : A → Type 0) → ((x : A) → P x → Q x) → (l : List A) → AllByRecursion P l → AllByRecursion Q l
+all_weaker P Q f [] h = tt
+all_weaker P Q f (x ∷ xs) h = (f x h.0, all_weaker P Q f xs h.1)
+
 -- ---- pairs under keys
 
 pub in_from_under : {A : Type 0} (κ : Bytes) (a : A) (ps : List (Bytes × A)) → under κ ps ≡ Some a → In (κ, a) ps
 unfolding under
-in_from_under κ a [] h = absurd (never_some a h)
-in_from_under κ a (p ∷ ps) h = go (same p.0 κ) refl h (in_from_under κ a ps)
-  where
-    go : (b : Bool) → same p.0 κ ≡ b → cond b (Some p.1) (under κ ps) ≡ Some a → (under κ ps ≡ Some a → In (κ, a) ps) → In (κ, a) (p ∷ ps)
-    go true e q k = inl (λ i. (same_is p.0 κ e i, some_same p.1 a q i))
-    go false e q k = inr (k q)
+in_from_under κ a [] h = absurd (none-some a h)
+in_from_under κ a (p ∷ ps) h =
+    let k = in_from_under κ a ps in
+    let here : same p.0 κ ≡ true → p.1 ≡ a → p ≡ (κ, a) = λ e q i. (same_is p.0 κ e i, q i) in
+    grind arith
 
 -- what follows a key in an ascending list stands above it
 pub above_first : {A : Type 0} (κ : Bytes) (p : Bytes × A) (ps : List (Bytes × A)) → T (beyond total_order κ (keys ps)) → In p ps → below κ p.0 ≡ true
@@ -62,18 +61,8 @@ under-from-in p (q ∷ ps) h (inr i) =
 module _ {A : Type 0} (t : A → Bool) where
   pub kept_in : (l : List A) (x : A) → In x (filter t l) → In x l × (t x ≡ true)
   kept_in [] x h = absurd h
-  kept_in (y ∷ ys) x h = go (t y) refl h (kept_in ys x)
-    where
-      go : (b : Bool) → t y ≡ b → In x (cond b (y ∷ filter t ys) (filter t ys)) → (In x (filter t ys) → In x ys × (t x ≡ true)) → In x (y ∷ ys) × (t x ≡ true)
-      go true e (inl p) k = (inl p, subst (λ z. t z ≡ true) p e)
-      go true e (inr p) k = (inr (k p).0, (k p).1)
-      go false e p k = (inr (k p).0, (k p).1)
+  kept_in (y ∷ ys) x h = let k : In x (filter t ys) → In x ys × (t x ≡ true) = kept_in ys x in grind arith
 
   pub in_kept : (l : List A) (x : A) → In x l → t x ≡ true → In x (filter t l)
   in_kept [] x h e = h
-  in_kept (y ∷ ys) x (inl p) e = let q : t y ≡ true = ap t p ∙ e in rw q (inl p)
-  in_kept (y ∷ ys) x (inr p) e = go (t y) (in_kept ys x p e)
-    where
-      go : (b : Bool) → In x (filter t ys) → In x (cond b (y ∷ filter t ys) (filter t ys))
-      go true k = inr k
-      go false k = k
+  in_kept (y ∷ ys) x h e = let k : In x ys → In x (filter t ys) = λ i. in_kept ys x i e in grind arith

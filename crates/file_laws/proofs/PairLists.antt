@@ -1,6 +1,6 @@
 -- Lists of pairs after a pair was put in, changed or taken out: what holds of each pair, lengths and totals. Assumes
 -- nothing.
-use Rattle.std.proofs.Common.{◌≡◌, ℕ, ◌≤◌, Bool, true, false, cond, T, eqb, List, [], ◌∷◌, length, Some, arith}
+use Rattle.std.proofs.Common.{◌≡◌, ℕ, ◌≤◌, T, List, [], ◌∷◌, length, Some, arith}
 use Rattle.std.specs.Ordering.{is_lt}
 use Rattle.std.specs.List.{AllByRecursion}
 use Rattle.ordered_table.specs.Table.{is_strictly_sorted_by}
@@ -54,28 +54,15 @@ module _ (n : ℕ) where
   beyond_others : (κ : Bytes) (ps : List (Bytes × ℕ)) → T (beyond total_order κ (keys ps)) → T (beyond total_order κ (keys (others_locks n ps)))
   unfolding others_locks
   beyond_others κ [] h = h
-  beyond_others κ (p ∷ ps) h = go (eqb p.1 n) (beyond_others κ ps (right first_above rest_above h))
-    where
-      first_above : Bool
-      first_above = is_lt (order κ p.0)
-
-      rest_above : Bool
-      rest_above = beyond total_order κ (keys ps)
-
-      go : (b : Bool) → T (beyond total_order κ (keys (others_locks n ps))) → T (beyond total_order κ (keys (cond b (others_locks n ps) (p ∷ others_locks n ps))))
-      go true i = i
-      go false i = both (is_lt (order κ p.0)) (beyond total_order κ (keys (others_locks n ps))) (left (is_lt (order κ p.0)) (beyond total_order κ (keys ps)) h) i
+  beyond_others κ (p ∷ ps) h = let i = beyond_others κ ps (right (is_lt (order κ p.0)) (beyond total_order κ (keys ps)) h) in grind (arith, left, both)
 
   pub ascending_others : (ps : List (Bytes × ℕ)) → Ascending (keys ps) → Ascending (keys (others_locks n ps))
   unfolding others_locks
   ascending_others [] h = h
-  ascending_others (p ∷ ps) h = go (eqb p.1 n) (ascending_others ps (right (beyond total_order p.0 (keys ps)) (is_strictly_sorted_by order (keys ps)) h))
-    where
-      go : (b : Bool) → Ascending (keys (others_locks n ps)) → Ascending (keys (cond b (others_locks n ps) (p ∷ others_locks n ps)))
-      go true i = i
-      go false i =
-          both (beyond total_order p.0 (keys (others_locks n ps))) (is_strictly_sorted_by order (keys (others_locks n ps)))
-          (beyond_others p.0 ps (left (beyond total_order p.0 (keys ps)) (is_strictly_sorted_by order (keys ps)) h)) i
+  ascending_others (p ∷ ps) h =
+      let i = ascending_others ps (right (beyond total_order p.0 (keys ps)) (is_strictly_sorted_by order (keys ps)) h) in
+      let o = beyond_others p.0 ps (left (beyond total_order p.0 (keys ps)) (is_strictly_sorted_by order (keys ps)) h) in
+      grind (arith, both)
 
 -- the locks that another's release leaves
 pub under-others : (κ : Bytes) (n m : ℕ) (ps : List (Bytes × ℕ)) → (m ≡ n → ⊥) → under κ ps ≡ Some n → under κ (others_locks m ps) ≡ Some n

@@ -1,7 +1,6 @@
 -- What an accepted call has passed, and which refusal has which number. Assumes nothing.
-use Rattle.std.proofs.Common.{◌≡◌, ℕ, ◌≤◌, Bool, true, false, cond, not, ◌&&◌, ◌||◌, List, [], ◌∷◌, length, is_some, Some, None, sym, refl, ap, subst, true≢false, arith}
+use Rattle.std.proofs.Common.{◌≡◌, ◌≤◌, Bool, true, false, ◌&&◌, ◌||◌, List, [], ◌∷◌, length, is_some, Some, None, sym, ap, true≢false, arith}
 use Rattle.std.proofs.lemmas.Bool.Decides.{nat_tests}
-use Rattle.std.proofs.lemmas.Bool.{or_parts, and_parts, not-false, leb-true}
 use Rattle.std.specs.List.{AllByRecursion}
 use Rattle.storage.specs.Checks.{first}
 use Rattle.file_rules.specs.declared.fault.CallFault.{CallFault}
@@ -17,23 +16,14 @@ use Rattle.file_rules.specs.Refusals.{tested, checks, refusal}
 module _ {F : Type 0} where
   pub passed : (l : List (Bool × F)) → first l ≡ None → AllByRecursion (λ p. p.0 ≡ false) l
   passed [] h = tt
-  passed (p ∷ ps) h = go p.0 refl h (passed ps)
-    where
-      go : (b : Bool) → p.0 ≡ b → cond b (Some p.1) (first ps) ≡ None → (first ps ≡ None → AllByRecursion (λ p. p.0 ≡ false) ps) → AllByRecursion (λ p. p.0 ≡ false) (p ∷ ps)
-      go true e h k = absurd (true≢false (ap is_some h))
-      go false e h k = (e, k h)
+  passed (p ∷ ps) h = let k = passed ps in grind arith
 
   pub chosen : (Q : F → Type 0) (r : F) (l : List (Bool × F)) → AllByRecursion (λ p. p.0 ≡ true → Q p.1) l → first l ≡ Some r → Q r
   chosen Q r [] a h = absurd (true≢false (sym (ap is_some h)))
-  chosen Q r (p ∷ ps) a h = go p.0 refl h (chosen Q r ps a.1)
-    where
-      go : (b : Bool) → p.0 ≡ b → cond b (Some p.1) (first ps) ≡ Some r → (first ps ≡ Some r → Q r) → Q r
-      go true e h k = let s : p.1 ≡ r = cc in subst Q s (a.0 e)
-      go false e h k = k h
+  chosen Q r (p ∷ ps) a h = let k = chosen Q r ps a.1 in grind arith
 
 pub and_second : (x y : Bool) → x ≡ true → (x && y) ≡ false → y ≡ false
-and_second true y e h = h
-and_second false y e h = absurd (true≢false (sym e))
+and_second x y e h = grind arith
 
 -- ---- what was passed
 
@@ -81,17 +71,14 @@ clear d s c h =
     }
 
 module _ (d : Description) (s : PlainFile) (c : Call) (k : Clear d s c) where
-  in_range : ((1 ≤ number c) × (number c ≤ 8))
-  in_range = let p = and_parts _ _ (not-false _ (or_parts _ _ k.opened).0) in (leb-true _ _ p.0, leb-true _ _ p.1)
-
   pub low : 1 ≤ number c
-  low = in_range.0
+  low = let h = k.opened in grind (arith, nat_tests)
 
   pub high : number c ≤ 8
-  high = in_range.1
+  high = let h = k.opened in grind (arith, nat_tests)
 
   pub is_open : is Open c ≡ false → is_some (entry_of s (number c)) ≡ true
-  is_open e = not-false _ (and_second _ _ (ap not e) (or_parts _ _ k.opened).1)
+  is_open e = let h = k.opened in grind arith
 
   pub roomy : count c ≤ length (buffer c)
   roomy = let h = k.buffered in grind (arith, nat_tests)
@@ -104,11 +91,8 @@ module _ (d : Description) (s : PlainFile) (c : Call) where
   unfolding refusal
   nonzero r h = chosen (λ r. number_of r ≡ 0 → ⊥) r (tested d s c checks) (omega arith) h
 
-  no : {P Q : Type 0} (k : ℕ) → (k ≡ 1 → ⊥) → P → k ≡ 1 → Q
-  no k n p e = absurd (n e)
-
   -- only an empty subset is told by 1
   pub told_empty : (r : CallFault) → refusal d s c ≡ Some r → number_of r ≡ 1 → subset_empty d s c ≡ true
   unfolding refusal
   told_empty r h = chosen (λ r. number_of r ≡ 1 → subset_empty d s c ≡ true) r (tested d s c checks)
-      (no 16 (omega arith), (no 2 (omega arith), (no 46 (omega arith), (no 21 (omega arith), (no 22 (omega arith), (no 12 (omega arith), (no 46 (omega arith), (no 73 (omega arith), (λ h _. h, (no 73 (omega arith), (no 11 (omega arith), (no 31 (omega arith), (no 21 (omega arith), (no 10 (omega arith), (no 10 (omega arith), (no 45 (omega arith), (no 45 (omega arith), tt))))))))))))))))) h
+      (grind arith) h

@@ -1,15 +1,15 @@
 -- The rows of a record, and of all records present. Assumes nothing.
 use Rattle.std.proofs.Common.{◌≡◌, ℕ, zero, suc, ◌-◌, true, List, [], ◌∷◌, ◌++◌, length, drop, Some, None, Option, sym, refl, ap, ◌∙◌, subst, inl, inr, ⊎_elim, true≢false, arith}
+use Rattle.std.proofs.lemmas.Option.{none-some}
 use Rattle.std.specs.Option.{option_map}
 use Rattle.std.proofs.lemmas.List.{append_assoc, length-append, drop_at}
-use Rattle.std.proofs.lemmas.Bool.{or_cases, or_left, or_right}
-use Rattle.byte_strings.specs.Bytes.{Bytes, same}
+use Rattle.byte_strings.specs.Bytes.{Bytes}
 use Rattle.storage.specs.Laws.{has}
 use Rattle.storage.specs.Pairs.{Ascending, keys, under}
 use Rattle.file_rules.specs.declared.description.AlternateKey.{AlternateKey}
 use Rattle.file_rules.specs.Descriptions.{nth_key}
 use Rattle.file_rules.specs.Paths.{value, row, and_then, record_rows, all_rows}
-use Rattle.file_laws.proofs.Members.{In, never_some, in_from_under, under-from-in}
+use Rattle.file_laws.proofs.Members.{In, in_from_under, under-from-in}
 use Rattle.file_laws.proofs.Sorting.{has_cases, has-append, has-itself}
 
 -- ---- one record
@@ -31,17 +31,11 @@ module _ (κ r x : Bytes) where
       go (Some y) e h i = ⊎_elim (λ s. (zero, k, refl, e ∙ ap Some s)) (λ t. later (i t)) (has_cases y x (record_rows ks κ r) h)
 
   pub row_on_path : (ks : List AlternateKey) (i : ℕ) (k : AlternateKey) → nth_key ks i ≡ Some k → row k κ r ≡ Some x → has x (record_rows ks κ r) ≡ true
-  row_on_path [] i k n e = absurd (never_some k n)
-  row_on_path (j ∷ ks) zero k n e =
-      let s : j ≡ k = cc in
-      subst (λ o. has x (and_then o (record_rows ks κ r)) ≡ true) (sym (ap (λ l. row l κ r) s ∙ e)) (has-itself x (record_rows ks κ r))
-  row_on_path (j ∷ ks) (suc i) k n e = go (row j κ r) (row_on_path ks i k n e)
-    where
-      go : (o : Option Bytes) → has x (record_rows ks κ r) ≡ true → has x (and_then o (record_rows ks κ r)) ≡ true
-      go None h = h
-      go (Some y) h = or_right (same y x) (has x (record_rows ks κ r)) h
+  row_on_path [] i k n e = absurd (none-some k n)
+  row_on_path (j ∷ ks) zero k n e = grind (arith, has-itself)
+  row_on_path (j ∷ ks) (suc i) k n e = let h = row_on_path ks i k n e in grind arith
 
-drop-front : (front κ : Bytes) → drop (length (front ++ κ) - length κ) (front ++ κ) ≡ κ
+pub drop-front : (front κ : Bytes) → drop (length (front ++ κ) - length κ) (front ++ κ) ≡ κ
 drop-front front κ = drop_at front κ _ (let l = length-append front κ in omega arith)
 
 -- a row ends with its primary key
@@ -49,7 +43,7 @@ pub row_ends : (ks : List AlternateKey) (κ r x : Bytes) → has x (record_rows 
 row_ends ks κ r x h = let w = path_of_row κ r x ks h in go w.1.specifier (value w.1 r) w.3
   where
     go : (s : Bytes) (o : Option Bytes) → option_map (λ v. s ++ (v ++ κ)) o ≡ Some x → drop (length x - length κ) x ≡ κ
-    go s None e = absurd (never_some x e)
+    go s None e = absurd (none-some x e)
     go s (Some v) e =
         let i : s ++ (v ++ κ) ≡ x = cc in
         subst (λ z. drop (length z - length κ) z ≡ κ) (append_assoc s v κ ∙ i) (drop-front (s ++ v) κ)
@@ -68,16 +62,13 @@ module _ (ks : List AlternateKey) (x : Bytes) where
   pair_of_row [] h = absurd (true≢false (sym h))
   pair_of_row (p ∷ ps) h =
       ⊎_elim (λ t. (p, inl refl, t)) (λ t. let w = pair_of_row ps t in (w.0, inr w.1, w.2))
-      (or_cases (has x (record_rows ks p.0 p.1)) (has x (all_rows ks ps)) (sym (has-append x (record_rows ks p.0 p.1) (all_rows ks ps)) ∙ h))
+      (let a = has-append x (record_rows ks p.0 p.1) (all_rows ks ps) in grind arith)
 
   row_of_pair : (ps : List (Bytes × Bytes)) (p : Bytes × Bytes) → In p ps → has x (record_rows ks p.0 p.1) ≡ true → has x (all_rows ks ps) ≡ true
   row_of_pair [] p i h = absurd i
-  row_of_pair (q ∷ ps) p (inl e) h =
-      has-append x (record_rows ks q.0 q.1) (all_rows ks ps)
-      ∙ or_left (has x (record_rows ks q.0 q.1)) (has x (all_rows ks ps)) (ap (λ z. has x (record_rows ks z.0 z.1)) e ∙ h)
-  row_of_pair (q ∷ ps) p (inr i) h =
-      has-append x (record_rows ks q.0 q.1) (all_rows ks ps)
-      ∙ or_right (has x (record_rows ks q.0 q.1)) (has x (all_rows ks ps)) (row_of_pair ps p i h)
+  row_of_pair (q ∷ ps) p i h =
+      let k : In p ps → has x (all_rows ks ps) ≡ true = λ i. row_of_pair ps p i h in
+      grind (arith, has-append)
 
   pub record_of_row : (ps : List (Bytes × Bytes)) → Ascending (keys ps) → has x (all_rows ks ps) ≡ true → OfRecord ks ps x
   record_of_row ps a h =

@@ -1,7 +1,6 @@
 -- The law of runs. Assumes nothing.
 use Rattle.std.proofs.Common.{◌≡◌, ℕ, zero, suc, ◌-◌, Bool, true, false, cond, ◌⊎◌, List, [], ◌∷◌, ◌++◌, length, drop, Some, None, Option, Less, sym, refl, ap, ◌∙◌, subst, inl, inr, true≢false, arith}
-use Rattle.std.proofs.ByRecursion.{All-weaker}
-use Rattle.std.proofs.lemmas.List.{length-append, drop_at}
+use Rattle.std.proofs.lemmas.Option.{same_Some}
 use Rattle.std.proofs.lemmas.Bool.{both_ways, or_cases}
 use Rattle.std.specs.Option.{option_map}
 use Rattle.std.specs.List.Sorted.{IsStrictlySortedBy}
@@ -14,7 +13,7 @@ use Rattle.file_rules.specs.Calls.{Call, KEYPOSITION, READ, Answer, KeyPosition,
 use Rattle.file_rules.specs.Checks.{given}
 use Rattle.file_rules.specs.Descriptions.{Description, key_len, nth_key}
 use Rattle.file_rules.specs.Files.{Entry, PlainFile, entry_of, own}
-use Rattle.file_rules.specs.Paths.{value, alternate_string, path_string}
+use Rattle.file_rules.specs.Paths.{alternate_string, path_string}
 use Rattle.file_rules.specs.Refusals.{refusal}
 use Rattle.file_rules.specs.Steps.{Event, moved_to, positioned, effect, step, event, trace}
 use Rattle.file_rules.specs.Subsets.{Found, within, subset, lowest}
@@ -25,8 +24,9 @@ use Rattle.file_laws.proofs.CallForms.{form}
 use Rattle.file_laws.proofs.Chains.{cut_at}
 use Rattle.file_laws.proofs.Deliveries.{read_of}
 use Rattle.file_laws.proofs.Events.{numbered-same, own_is, accepted, accepted_step, saw_parts, keeps, ended}
-use Rattle.file_laws.proofs.Members.{In, some_same, never_some, all_in, in_from_under}
+use Rattle.file_laws.proofs.Members.{In, all_in, all_weaker, in_from_under}
 use Rattle.file_laws.proofs.Refusals.{clear, is_open}
+use Rattle.file_laws.proofs.Rows.{drop-front}
 use Rattle.file_laws.proofs.Sorting.{test_from_sorted}
 use Rattle.file_laws.proofs.Soundness.{stays_sound}
 use Rattle.file_laws.proofs.Subsets.{Low, in_subset, subset_in, lowest_low, lowest_none, within_back, within-next}
@@ -63,8 +63,7 @@ module _ (d : Description) (n : ℕ) (o : Entry) (s : PlainFile) (e : Event) (es
   }
     where
       go : (κ x : Bytes) → within o x ≡ true → Keeps d o.path κ x s → Keeps d o.path κ x e.after × AllByRecursion (λ e. Keeps d o.path κ x e.after) es → (exhausts n e ≡ true) ⊎ (exhausted n es ≡ true) → times x (strings_read n es) ≡ 1
-      go κ x w p a (inl q) = let f = kept_found d s o κ x w p in absurd (subst (In f.0) (lowest_none (subset d s.pairs o) (k q)) f.1)
-      go κ x w p a (inr q) = h.whole q κ x w a.0 a.1
+      go κ x w p a c = let f = kept_found d s o κ x w p in let t = h.whole in grind (arith, lowest_none)
 
   -- a READ of n
   module _ (f : Found) (z : delivers n e ≡ true) (left : own e.after n ≡ moved_to o f) (low : Low f (subset d s.pairs o)) where
@@ -80,24 +79,23 @@ module _ (d : Description) (n : ℕ) (o : Entry) (s : PlainFile) (e : Event) (es
     gaining : Along d o n e → Reading d n (moved_to o f) e.after es → Reading d n o s (e ∷ es)
     unfolding IsStrictlySortedBy
     gaining here h = record {
-      ascending = rw (z, left) (All-weaker (λ x. within (moved_to o f) x ≡ true) (λ x. order f.string x ≡ Less) (λ x w. below_less f.string x (back x w).1) (strings_read n es) h.inside, h.ascending);
-      inside = rw (z, left) (at, All-weaker (λ x. within (moved_to o f) x ≡ true) (λ x. within o x ≡ true) (λ x w. (back x w).0) (strings_read n es) h.inside);
-      along = ((λ _. here), All-weaker (λ v. delivers n v ≡ true → Along d (moved_to o f) n v) (λ v. delivers n v ≡ true → Along d o n v) wider es h.along);
+      ascending = rw (z, left) (all_weaker (λ x. within (moved_to o f) x ≡ true) (λ x. order f.string x ≡ Less) (λ x w. below_less f.string x (back x w).1) (strings_read n es) h.inside, h.ascending);
+      inside = rw (z, left) (at, all_weaker (λ x. within (moved_to o f) x ≡ true) (λ x. within o x ≡ true) (λ x w. (back x w).0) (strings_read n es) h.inside);
+      along = ((λ _. here), all_weaker (λ v. delivers n v ≡ true → Along d (moved_to o f) n v) (λ v. delivers n v ≡ true → Along d o n v) wider es h.along);
       whole = λ t κ x w p a. rw (z, left) (go κ x w p a (or_cases _ _ t));
     }
       where
-        above : (κ x : Bytes) → within o x ≡ true → Keeps d o.path κ x s → same f.string x ≡ false → (b : Bool) → below f.string x ≡ b → below f.string x ≡ true
-        above κ x w p ne true q = q
-        above κ x w p ne false q =
+        above : (κ x : Bytes) → within o x ≡ true → Keeps d o.path κ x s → same f.string x ≡ false → below f.string x ≡ true
+        above κ x w p ne =
             let g = kept_found d s o κ x w p in
-            let l : below x f.string ≡ false = subst (λ y. below y f.string ≡ false) g.2 (low.1 g.0 g.1) in
-            absurd (both_ways (same f.string x) ne (is_same f.string x (below_neither f.string x q l)))
+            let l = low.1 g.0 g.1 in
+            grind (arith, is_same, below_neither)
 
         each : (κ x : Bytes) → within o x ≡ true → Keeps d o.path κ x s → Keeps d o.path κ x e.after × AllByRecursion (λ e. Keeps d o.path κ x e.after) es → exhausted n es ≡ true → (f.string ≡ x) ⊎ (same f.string x ≡ false) → cond (same f.string x) (suc (times x (strings_read n es))) (times x (strings_read n es)) ≡ 1
         each κ x w p a q (inl eq) =
-            let t : times x (strings_read n es) ≡ 0 = times_none x (strings_read n es) (All-weaker (λ y. within (moved_to o f) y ≡ true) (λ y. below x y ≡ true) (λ y v. subst (λ u. below u y ≡ true) eq (back y v).1) (strings_read n es) h.inside) in
+            let t : times x (strings_read n es) ≡ 0 = times_none x (strings_read n es) (all_weaker (λ y. within (moved_to o f) y ≡ true) (λ y. below x y ≡ true) (λ y v. subst (λ u. below u y ≡ true) eq (back y v).1) (strings_read n es) h.inside) in
             rw (is_same f.string x eq, t)
-        each κ x w p a q (inr ne) = rw ne (h.whole q κ x (within-next o f x at w (above κ x w p ne (below f.string x) refl)) a.0 a.1)
+        each κ x w p a q (inr ne) = rw ne (h.whole q κ x (within-next o f x at w (above κ x w p ne)) a.0 a.1)
 
         go : (κ x : Bytes) → within o x ≡ true → Keeps d o.path κ x s → Keeps d o.path κ x e.after × AllByRecursion (λ e. Keeps d o.path κ x e.after) es → (exhausts n e ≡ true) ⊎ (exhausted n es ≡ true) → cond (same f.string x) (suc (times x (strings_read n es))) (times x (strings_read n es)) ≡ 1
         go κ x w p a (inl q) =
@@ -151,16 +149,14 @@ core d n (c ∷ cs) s g o h r = one d n s (trace d (step d s c).0 cs) g o h c (c
 -- a path string tells its primary key
 string_ends : (d : Description) (path : ℕ) (κ r η t x : Bytes) → length κ ≡ length η → path_string d path κ r ≡ Some x → path_string d path η t ≡ Some x → κ ≡ η
 unfolding path_string
-string_ends d zero κ r η t x l h k = some_same κ x h ∙ sym (some_same η x k)
+string_ends d zero κ r η t x l h k = same_Some κ x h ∙ sym (same_Some η x k)
 string_ends d (suc i) κ r η t x l h k = go (nth_key d.alternates i) h k
   where
     ending : (o : Option Bytes) (θ : Bytes) → option_map (λ v. v ++ θ) o ≡ Some x → drop (length x - length θ) x ≡ θ
-    ending None θ e = absurd (never_some x e)
-    ending (Some v) θ e = subst (λ z. drop (length z - length θ) z ≡ θ) (some_same (v ++ θ) x e) (drop_at v θ _ (let m = length-append v θ in omega arith))
+    ending o θ e = grind (arith, drop-front)
 
     go : (o : Option AlternateKey) → alternate_string o κ r ≡ Some x → alternate_string o η t ≡ Some x → κ ≡ η
-    go None h k = absurd (never_some x h)
-    go (Some a) h k = sym (ending (value a r) κ h) ∙ (ap (λ m. drop (length x - m) x) l ∙ ending (value a t) η k)
+    go o h k = grind (arith, ending)
 
 module _ (d : Description) (o : Entry) (n : ℕ) (κ x : Bytes) where
   key_length_of : (s : PlainFile) (η t : Bytes) → Sound d s → under η s.pairs ≡ Some t → length η ≡ key_len d
@@ -172,8 +168,8 @@ module _ (d : Description) (o : Entry) (n : ℕ) (κ x : Bytes) where
     where
       together : κ ≡ a.delivery.key → (own (step d s c).0 n).position ≡ x
       together e =
-          let same_bytes : a.delivery.bytes ≡ p.0 = some_same a.delivery.bytes p.0 (sym a.delivery.present ∙ (ap (λ η. under η s.pairs) (sym e) ∙ p.1)) in
-          some_same _ x (sym a.string ∙ ((λ j. path_string d o.path (sym e j) (same_bytes j)) ∙ p.2))
+          let same_bytes : a.delivery.bytes ≡ p.0 = same_Some a.delivery.bytes p.0 (sym a.delivery.present ∙ (ap (λ η. under η s.pairs) (sym e) ∙ p.1)) in
+          same_Some _ x (sym a.string ∙ ((λ j. path_string d o.path (sym e j) (same_bytes j)) ∙ p.2))
 
       apart : (own (step d s c).0 n).position ≡ x → κ ≡ a.delivery.key
       apart e =
@@ -182,9 +178,7 @@ module _ (d : Description) (o : Entry) (n : ℕ) (κ x : Bytes) where
           p.2 (a.string ∙ ap Some e)
 
       go : (κ ≡ a.delivery.key) ⊎ (same κ a.delivery.key ≡ false) → ((own (step d s c).0 n).position ≡ x) ⊎ (same (own (step d s c).0 n).position x ≡ false) → same κ a.delivery.key ≡ same (own (step d s c).0 n).position x
-      go (inl e) w = is_same _ _ e ∙ sym (is_same _ _ (together e))
-      go (inr e) (inl w) = absurd (both_ways _ e (is_same _ _ (apart w)))
-      go (inr e) (inr w) = e ∙ sym w
+      go v w = grind (arith, is_same, together, apart)
 
   by_records : (cs : List Call) (s : PlainFile) → Sound d s → Keeps d o.path κ x s → AllByRecursion (λ e. Keeps d o.path κ x e.after) (trace d s cs) → AllByRecursion (λ e. delivers n e ≡ true → Along d o n e) (trace d s cs) → times_read n κ (trace d s cs) ≡ times x (strings_read n (trace d s cs))
   unfolding trace

@@ -3,7 +3,6 @@ use Rattle.std.proofs.Common.{◌≡◌, Bool, true, false, cond, ◌||◌, T, �
 use Rattle.std.specs.Ordering.{is_lt}
 use Rattle.std.specs.List.Sorted.{IsStrictlySortedBy}
 use Rattle.std.specs.List.{AllByRecursion, list_all}
-use Rattle.std.proofs.ByRecursion.{All-weaker}
 use Rattle.std.proofs.lemmas.Bool.{or_cases}
 use Rattle.byte_strings.specs.Bytes.{Bytes, order, below, same}
 use Rattle.byte_strings.proofs.TotalOrder.{same_is, is_same, same-flip, total_order, below_less, less_below, below_neither, below_not_same}
@@ -12,6 +11,7 @@ use Rattle.ordered_table.proofs.Edits.{both, left, right, is_less, less_test}
 use Rattle.storage.specs.Laws.{has}
 use Rattle.storage.specs.Pairs.{Ascending}
 use Rattle.file_rules.specs.Paths.{sorted_in, sorted}
+use Rattle.file_laws.proofs.Members.{all_weaker}
 
 -- ---- has
 
@@ -71,7 +71,7 @@ before_sorted_in k x [] h a = (h, tt)
 before_sorted_in k x (y ∷ ys) h a = let i = before_sorted_in k x ys h a.1 in grind arith
 
 earlier : (x y : Bytes) (zs : List Bytes) → order x y ≡ Less → Before y zs → Before x zs
-earlier x y zs h a = All-weaker (λ z. order y z ≡ Less) (λ z. order x z ≡ Less) (λ z. total_order.trans x y z h) zs a
+earlier x y zs h a = all_weaker (λ z. order y z ≡ Less) (λ z. order x z ≡ Less) (λ z. total_order.trans x y z h) zs a
 
 sorted_in_sorted : (x : Bytes) (ys : List Bytes) → IsStrictlySortedBy order ys → IsStrictlySortedBy order (sorted_in x ys)
 unfolding IsStrictlySortedBy
@@ -103,19 +103,14 @@ absent x (y ∷ ys) a =
 
 -- each list has the head of the other, and none of them further on
 heads : (x y : Bytes) (xs ys : List Bytes) → Before x xs → Before y ys → has x (y ∷ ys) ≡ true → has y (x ∷ xs) ≡ true → x ≡ y
-heads x y xs ys a b h k = go (below x y) (below y x) refl refl
-  where
-    go : (p q : Bool) → below x y ≡ p → below y x ≡ q → x ≡ y
-    go true q l m = absurd (true≢false (sym h ∙ absent x (y ∷ ys) (below_less x y l, earlier x y ys (below_less x y l) b)))
-    go false true l m = absurd (true≢false (sym k ∙ absent y (x ∷ xs) (below_less y x m, earlier y x xs (below_less y x m) a)))
-    go false false l m = below_neither x y l m
+heads x y xs ys a b h k =
+    let l : below x y ≡ true → has x (y ∷ ys) ≡ false = λ l. absent x (y ∷ ys) (below_less x y l, earlier x y ys (below_less x y l) b) in
+    let m : below y x ≡ true → has y (x ∷ xs) ≡ false = λ l. absent y (x ∷ xs) (below_less y x l, earlier y x xs (below_less y x l) a) in
+    let e = below_neither x y in
+    grind arith
 
 tails : (x : Bytes) (xs ys : List Bytes) → Before x xs → Before x ys → ((z : Bytes) → has z (x ∷ xs) ≡ has z (x ∷ ys)) → (z : Bytes) → has z xs ≡ has z ys
-tails x xs ys a b h z = go (same x z) refl (h z)
-  where
-    go : (s : Bool) → same x z ≡ s → (s || has z xs) ≡ (s || has z ys) → has z xs ≡ has z ys
-    go true e k = subst (λ w. has w xs ≡ has w ys) (same_is x z e) (absent x xs a ∙ sym (absent x ys b))
-    go false e k = k
+tails x xs ys a b h z = let k = h z in grind (arith, same_is, absent)
 
 same_lists : (xs ys : List Bytes) → IsStrictlySortedBy order xs → IsStrictlySortedBy order ys → ((z : Bytes) → has z xs ≡ has z ys) → xs ≡ ys
 unfolding IsStrictlySortedBy

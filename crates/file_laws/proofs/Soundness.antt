@@ -1,9 +1,8 @@
 -- Every call leaves a sound state sound. Assumes nothing.
-use Rattle.std.proofs.Common.{◌≡◌, ℕ, pred, ◌≤◌, Bool, true, false, cond, not, ◌&&◌, eqb, ltb, leb, List, [], length, take, is_some, Some, None, Option, sym, refl, ap, ◌∙◌, subst, true≢false, arith}
-use Rattle.std.proofs.ByRecursion.{All-set}
+use Rattle.std.proofs.Common.{◌≡◌, ℕ, pred, ◌≤◌, Bool, true, false, cond, not, ◌&&◌, eqb, ltb, leb, List, length, take, is_some, Some, None, Option, sym, refl, ap, ◌∙◌, subst, arith}
+use Rattle.std.proofs.lemmas.List.Elements.{All-from_recursion, recursion_from_All, All-set}
 use Rattle.std.proofs.lemmas.List.{length-set}
 use Rattle.std.proofs.lemmas.Bool.{or_parts, not_from_false, not-false, eqb-false, leb-false, ltb-false}
-use Rattle.std.specs.Option.{option_map}
 use Rattle.std.specs.List.{AllByRecursion}
 use Rattle.byte_strings.specs.Bytes.{Bytes}
 use Rattle.storage.specs.Pairs.{Ascending, keys, total, under, placed, replaced, without}
@@ -11,11 +10,11 @@ use Rattle.storage.specs.Primary.{no_room}
 use Rattle.storage.proofs.Figures.{length-placed, length-replaced}
 use Rattle.storage.proofs.OwnPair.{placed_ascending, replaced_ascending, removed_ascending}
 use Rattle.file_rules.specs.declared.fault.CallFault.{CallFault}
-use Rattle.file_rules.specs.Calls.{Call, OPEN, CLOSE, KEYPOSITION, READ, READUPDATE, WRITE, WRITEUPDATE, LOCKFILE, UNLOCKFILE, LOCKREC, UNLOCKREC, LOCKINFO, Answer}
-use Rattle.file_rules.specs.Checks.{given, anothers, cuts_key, clash_under}
+use Rattle.file_rules.specs.Calls.{Call, OPEN, CLOSE, KEYPOSITION, READ, READUPDATE, WRITE, WRITEUPDATE, LOCKFILE, UNLOCKFILE, LOCKREC, UNLOCKREC, LOCKINFO}
+use Rattle.file_rules.specs.Checks.{given, cuts_key, clash_under}
 use Rattle.file_rules.specs.Descriptions.{Description, key_len, shape_of}
 use Rattle.file_rules.specs.Files.{Entry, PlainFile, entry_of, own, with_entry, with_pairs, with_locks}
-use Rattle.file_rules.specs.Keys.{key_by, needs_name, new_key, key_in_question, written_under, written}
+use Rattle.file_rules.specs.Keys.{new_key, key_in_question, written_under, written}
 use Rattle.file_rules.specs.Paths.{fresh_rows}
 use Rattle.file_rules.specs.Refusals.{refusal}
 use Rattle.file_rules.specs.Steps.{others_locks, let_go, lock_taken, lock_released, moved_to, read_next, effect, step}
@@ -48,7 +47,9 @@ module _ (d : Description) (s : PlainFile) (h : Sound d s) where
     bytes = h.bytes;
     rows = h.rows;
     eight = length-set s.entries (pred n) e ∙ h.eight;
-    entries = All-set (IfAny (EntryFits d)) s.entries (pred n) e f h.entries;
+    entries =
+        let fits = IfAny (EntryFits d) in
+        recursion_from_All fits _ (All-set fits s.entries (pred n) e f (All-from_recursion fits s.entries h.entries));
     locked = h.locked;
     few = h.few;
     locks = h.locks;
@@ -130,24 +131,16 @@ module _ (d : Description) (s : PlainFile) (h : Sound d s) where
 
   sound_released : (n : ℕ) (o : Option Bytes) → Sound d (with_locks s s.file_lock (lock_released n o s.record_locks))
   sound_released n None = h
-  sound_released n (Some κ) = go (anothers n (under κ s.record_locks))
-    where
-      go : (b : Bool) → Sound d (with_locks s s.file_lock (cond b s.record_locks (without κ s.record_locks)))
-      go true = h
-      go false =
-          sound_locks s.file_lock (without κ s.record_locks) (removed_ascending κ s.record_locks h.locked)
-          (omega (arith, length_without κ s.record_locks, h.few)) (all_without κ (LockFits d) s.record_locks h.locks)
+  sound_released n (Some κ) =
+      let w = sound_locks s.file_lock (without κ s.record_locks) (removed_ascending κ s.record_locks h.locked)
+      (omega (arith, length_without κ s.record_locks, h.few)) (all_without κ (LockFits d) s.record_locks h.locks) in
+      grind arith
 
   -- ---- writes
 
   new_key_fits : (n c : ℕ) (b : Bytes) → c ≤ length b → cuts_key d.organization c ≡ false → is_some (entry_of s n) ≡ true → (o : Option Bytes) → new_key d s n (take c b) ≡ o → IfAny (λ κ. length κ ≡ key_len d) o
   unfolding new_key
-  new_key_fits n c b l k i o e = subst (IfAny (λ κ. length κ ≡ key_len d)) e (go (needs_name d) (own s n).current refl refl)
-    where
-      go : (r : Bool) (current : Option Bytes) → needs_name d ≡ r → (own s n).current ≡ current → IfAny (λ κ. length κ ≡ key_len d) (cond r (option_map (λ named. key_by d.organization s.pairs named (take c b)) current) (Some (key_by d.organization s.pairs [] (take c b))))
-      go true None q p = tt
-      go true (Some named) q p = key_fits d c b l d.organization s.pairs named k (λ _. current_fits n named i p)
-      go false current q p = key_fits d c b l d.organization s.pairs [] k (λ r. absurd (true≢false (sym r ∙ q)))
+  new_key_fits n c b l k i o e = let f = key_fits d c b l d.organization s.pairs in grind (arith, current_fits)
 
   sound_placed : (n c : ℕ) (b : Bytes) (o : Option Bytes) → 1 ≤ length (take c b) → length (take c b) ≤ d.longest → IfAny (λ κ. length κ ≡ key_len d) o →
       given o (λ κ. is_some (under κ s.pairs)) ≡ false → is_some (clash_under d s (take c b) o) ≡ false → given o (λ κ. no_room (shape_of d) s.pairs κ (take c b)) ≡ false →
@@ -242,5 +235,5 @@ pub stays_sound : StaysSound
 stays_sound d s c h = go (refusal d s c) refl
   where
     go : (r : Option CallFault) → refusal d s c ≡ r → Sound d (step d s c).0
-    go (Some r) e = subst (λ (z : PlainFile × Answer). Sound d z.0) (sym (refused_step d s c r e)) h
-    go None e = subst (λ (z : PlainFile × Answer). Sound d z.0) (sym (accepted_step d s c e)) (effect_sound d s c h (clear d s c e))
+    go (Some r) e = rw (refused_step d s c r e) h
+    go None e = rw (accepted_step d s c e) (effect_sound d s c h (clear d s c e))

@@ -1,20 +1,20 @@
 -- Which records a subset has, which of them is the lowest, and what is left of the subset behind a string of it.
 -- Assumes nothing.
-use Rattle.std.proofs.Common.{◌≡◌, ℕ, Bool, true, false, cond, List, [], ◌∷◌, take, is_some, Some, None, Option, sym, refl, ap, ◌∙◌, subst, inl, inr, true≢false}
-use Rattle.std.proofs.lemmas.Bool.{both_ways, and_parts, and_from, not-true, not_from_false}
+use Rattle.std.proofs.Common.{◌≡◌, ℕ, Bool, true, false, cond, List, [], ◌∷◌, is_some, Some, None, Option, refl, ap, subst, inl, inr, true≢false, arith}
+use Rattle.std.proofs.lemmas.Option.{same_Some, none-some}
+use Rattle.std.proofs.lemmas.Bool.{and_parts, and_from}
 use Rattle.byte_strings.specs.Bytes.{Bytes, below}
 use Rattle.byte_strings.proofs.TotalOrder.{below-trans, below_irrefl, below-asym, not_below_trans, same_is, is_same}
 use Rattle.storage.specs.declared.mark.PositionMark.{PositionMark}
 use Rattle.storage.specs.declared.mark.PositionMark.TheVariants.{At, Beyond}
 use Rattle.storage.specs.Pairs.{reached}
 use Rattle.file_rules.specs.declared.modes.PositioningMode.{PositioningMode}
-use Rattle.file_rules.specs.declared.modes.PositioningMode.TheVariants.{Approximate, Generic, Exact}
 use Rattle.file_rules.specs.Descriptions.{Description}
 use Rattle.file_rules.specs.Files.{Entry}
 use Rattle.file_rules.specs.Paths.{path_string}
 use Rattle.file_rules.specs.Steps.{moved_to}
-use Rattle.file_rules.specs.Subsets.{Found, found, strings, agrees, within, subset, lower, lowest}
-use Rattle.file_laws.proofs.Members.{In, some_same, never_some, kept_in, in_kept}
+use Rattle.file_rules.specs.Subsets.{Found, strings, agrees, within, subset, lower, lowest}
+use Rattle.file_laws.proofs.Members.{In, kept_in, in_kept}
 
 -- ---- the strings of the pairs
 
@@ -22,26 +22,12 @@ module _ (d : Description) (path : ℕ) where
   strings_in : (ps : List (Bytes × Bytes)) (f : Found) → In f (strings d path ps) → In (f.key, f.bytes) ps × (path_string d path f.key f.bytes ≡ Some f.string)
   unfolding strings
   strings_in [] f h = absurd h
-  strings_in (p ∷ ps) f h = go (path_string d path p.0 p.1) refl h (strings_in ps f)
-    where
-      go : (o : Option Bytes) → path_string d path p.0 p.1 ≡ o → In f (found o p (strings d path ps)) →
-          (In f (strings d path ps) → In (f.key, f.bytes) ps × (path_string d path f.key f.bytes ≡ Some f.string)) →
-          In (f.key, f.bytes) (p ∷ ps) × (path_string d path f.key f.bytes ≡ Some f.string)
-      go None e i k = (inr (k i).0, (k i).1)
-      go (Some x) e (inl q) k = (inl (ap (λ (g : Found). (g.key, g.bytes)) q), subst (λ (g : Found). path_string d path g.key g.bytes ≡ Some g.string) q e)
-      go (Some x) e (inr q) k = (inr (k q).0, (k q).1)
+  strings_in (p ∷ ps) f h = let k = strings_in ps f in grind arith
 
   in_strings : (ps : List (Bytes × Bytes)) (p : Bytes × Bytes) (x : Bytes) → In p ps → path_string d path p.0 p.1 ≡ Some x → In (record { string = x; key = p.0; bytes = p.1 }) (strings d path ps)
   unfolding strings
   in_strings [] p x h e = absurd h
-  in_strings (q ∷ ps) p x (inl h) e =
-      let w : path_string d path q.0 q.1 ≡ Some x = ap (λ (r : Bytes × Bytes). path_string d path r.0 r.1) h ∙ e in
-      rw w (inl (ap (λ (r : Bytes × Bytes). record { string = x; key = r.0; bytes = r.1 }) h))
-  in_strings (q ∷ ps) p x (inr h) e = go (path_string d path q.0 q.1) (in_strings ps p x h e)
-    where
-      go : (o : Option Bytes) → In (record { string = x; key = p.0; bytes = p.1 }) (strings d path ps) → In (record { string = x; key = p.0; bytes = p.1 }) (found o q (strings d path ps))
-      go None k = k
-      go (Some y) k = inr k
+  in_strings (q ∷ ps) p x h e = let k : In p ps → In (record { string = x; key = p.0; bytes = p.1 }) (strings d path ps) = λ i. in_strings ps p x i e in grind arith
 
 module _ (d : Description) (ps : List (Bytes × Bytes)) (o : Entry) where
   pub in_subset : (p : Bytes × Bytes) (x : Bytes) → In p ps → path_string d o.path p.0 p.1 ≡ Some x → within o x ≡ true → In (record { string = x; key = p.0; bytes = p.1 }) (subset d ps o)
@@ -61,24 +47,12 @@ abbrev pub Low : Found → List Found → Type 0
 Low f l = In f l × ((g : Found) → In g l → below g.string f.string ≡ false)
 
 low_more : (f : Found) (l : List Found) (o : Option Found) → lowest l ≡ o → ((g : Found) → lowest l ≡ Some g → Low g l) → (lowest l ≡ None → l ≡ []) → Low (lower f o) (f ∷ l)
-low_more f l None e k n = (inl refl, λ g h. alone g (subst (λ m. In g (f ∷ m)) (n e) h))
-  where
-    alone : (g : Found) → In g (f ∷ []) → below g.string f.string ≡ false
-    alone g (inl p) = subst (λ z. below z.string f.string ≡ false) p (below_irrefl f.string)
-    alone g (inr p) = absurd p
+low_more f l None e k n = (inl refl, λ g h. let q = n e in grind (arith, below_irrefl))
 low_more f l (Some m) e k n = go (below m.string f.string) refl (k m e)
   where
     go : (b : Bool) → below m.string f.string ≡ b → Low m l → Low (cond b m f) (f ∷ l)
-    go true q h = (inr h.0, λ g i. each g i)
-      where
-        each : (g : Found) → In g (f ∷ l) → below g.string m.string ≡ false
-        each g (inl p) = subst (λ z. below z.string m.string ≡ false) p (below-asym f.string m.string q)
-        each g (inr p) = h.1 g p
-    go false q h = (inl refl, λ g i. each g i)
-      where
-        each : (g : Found) → In g (f ∷ l) → below g.string f.string ≡ false
-        each g (inl p) = subst (λ z. below z.string f.string ≡ false) p (below_irrefl f.string)
-        each g (inr p) = not_below_trans m.string g.string f.string (h.1 g p) q
+    go true q h = (inr h.0, λ g i. let w = h.1 g in grind (arith, below-asym))
+    go false q h = (inl refl, λ g i. let w = h.1 g in grind (arith, below_irrefl, not_below_trans))
 
 pub lowest_none : (l : List Found) → lowest l ≡ None → l ≡ []
 unfolding lowest
@@ -87,29 +61,21 @@ lowest_none (f ∷ l) h = absurd (true≢false (ap is_some h))
 
 pub lowest_low : (l : List Found) (f : Found) → lowest l ≡ Some f → Low f l
 unfolding lowest
-lowest_low [] f h = absurd (never_some f h)
-lowest_low (g ∷ l) f h = subst (λ z. Low z (g ∷ l)) (some_same (lower g (lowest l)) f h) (low_more g l (lowest l) refl (lowest_low l) (lowest_none l))
+lowest_low [] f h = absurd (none-some f h)
+lowest_low (g ∷ l) f h = subst (λ z. Low z (g ∷ l)) (same_Some (lower g (lowest l)) f h) (low_more g l (lowest l) refl (lowest_low l) (lowest_none l))
 
 -- ---- behind a string of the subset
 
 reached_on : (m : PositionMark) (p y x : Bytes) → reached m p y ≡ true → below y x ≡ true → reached m p x ≡ true
 reached_on Beyond p y x h k = below-trans p y x h k
-reached_on At p y x h k = not_from_false (below x p) (go (below x p) refl)
-  where
-    go : (b : Bool) → below x p ≡ b → below x p ≡ false
-    go true e = absurd (both_ways (below y p) (not-true (below y p) h) (below-trans y x p k e))
-    go false e = e
+reached_on At p y x h k = grind (arith, below-trans)
 
 module _ (c : ℕ) (p y x : Bytes) where
   agrees_on : (m : PositioningMode) → agrees m c p y ≡ true → agrees m c y x ≡ true → agrees m c p x ≡ true
-  agrees_on Approximate h k = refl
-  agrees_on Generic h k = is_same (take c p) (take c x) (same_is (take c p) (take c y) h ∙ same_is (take c y) (take c x) k)
-  agrees_on Exact h k = is_same (take c p) (take c x) (same_is (take c p) (take c y) h ∙ same_is (take c y) (take c x) k)
+  agrees_on m h k = grind (arith, is_same, same_is)
 
   agrees_back : (m : PositioningMode) → agrees m c p y ≡ true → agrees m c p x ≡ true → agrees m c y x ≡ true
-  agrees_back Approximate h k = refl
-  agrees_back Generic h k = is_same (take c y) (take c x) (sym (same_is (take c p) (take c y) h) ∙ same_is (take c p) (take c x) k)
-  agrees_back Exact h k = is_same (take c y) (take c x) (sym (same_is (take c p) (take c y) h) ∙ same_is (take c p) (take c x) k)
+  agrees_back m h k = grind (arith, is_same, same_is)
 
 module _ (o : Entry) (f : Found) (x : Bytes) (at : within o f.string ≡ true) where
   -- past a string of the subset stand only strings of it

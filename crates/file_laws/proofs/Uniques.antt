@@ -1,42 +1,33 @@
 -- A unique value that is tested before it is written stands in no two records. Assumes nothing.
-use Rattle.std.proofs.Common.{◌≡◌, ℕ, zero, suc, Bool, true, false, cond, not, ◌&&◌, ◌⊎◌, List, [], ◌∷◌, is_some, Some, None, sym, refl, ap, ◌∙◌, subst, inl, inr, true≢false}
-use Rattle.std.proofs.lemmas.Bool.{both_ways, or_parts, not_from_false}
+use Rattle.std.proofs.Common.{◌≡◌, ℕ, zero, suc, Bool, true, false, ◌⊎◌, List, [], ◌∷◌, is_some, Some, None, sym, refl, ap, ◌∙◌, subst, inl, inr, arith}
+use Rattle.std.proofs.lemmas.Option.{same_Some, none-some}
 use Rattle.byte_strings.specs.Bytes.{Bytes, same}
 use Rattle.byte_strings.proofs.TotalOrder.{is_same, same_cases, same-flip}
 use Rattle.storage.specs.Pairs.{under, placed, replaced, without}
 use Rattle.storage.proofs.OwnPair.{placed_here, replaced_here, removed_here, placed_elsewhere, replaced_elsewhere, removed_elsewhere}
 use Rattle.file_rules.specs.declared.description.AlternateKey.{AlternateKey}
-use Rattle.file_rules.specs.Checks.{given, held_elsewhere, shares, lowest_path}
+use Rattle.file_rules.specs.Checks.{held_elsewhere, shares, lowest_path}
 use Rattle.file_rules.specs.Descriptions.{nth_key}
 use Rattle.file_rules.specs.Loads.{any_shares}
 use Rattle.file_rules.specs.Paths.{value}
 use Rattle.file_laws.specs.Sound.{UniqueOnce}
-use Rattle.file_laws.proofs.Members.{In, some_same, never_some, in_from_under}
-use Rattle.file_laws.proofs.Refusals.{and_second}
+use Rattle.file_laws.proofs.Members.{In, in_from_under}
 
 -- where no path is named, no key passes
 pub none_passes : (t : AlternateKey → Bool) (ks : List AlternateKey) (i j : ℕ) (k : AlternateKey) → is_some (lowest_path i ks t) ≡ false → nth_key ks j ≡ Some k → t k ≡ false
-none_passes t [] i j k h e = absurd (never_some k e)
-none_passes t (x ∷ ks) i j k h e = go (t x) refl h j e (none_passes t ks (suc i))
-  where
-    go : (b : Bool) → t x ≡ b → is_some (cond b (Some i) (lowest_path (suc i) ks t)) ≡ false → (j : ℕ) → nth_key (x ∷ ks) j ≡ Some k → ((j : ℕ) (k : AlternateKey) → is_some (lowest_path (suc i) ks t) ≡ false → nth_key ks j ≡ Some k → t k ≡ false) → t k ≡ false
-    go true q h j e more = absurd (true≢false h)
-    go false q h zero e more = subst (λ z. t z ≡ false) (some_same x k e) q
-    go false q h (suc j) e more = more j k h e
+none_passes t [] i j k h e = absurd (none-some k e)
+none_passes t (x ∷ ks) i zero k h e = grind arith
+none_passes t (x ∷ ks) i (suc j) k h e = let more = none_passes t ks (suc i) j k in grind arith
 
 module _ (k : AlternateKey) (κ v : Bytes) where
   elsewhere_none : (ps : List (Bytes × Bytes)) (p : Bytes × Bytes) → held_elsewhere k κ v ps ≡ false → In p ps → value k p.1 ≡ Some v → same p.0 κ ≡ false → ⊥
   elsewhere_none [] p h i e o = i
-  elsewhere_none (q ∷ ps) p h (inl s) e o =
-      let f : (not (same p.0 κ) && given (value k p.1) (same v)) ≡ false = subst (λ (z : Bytes × Bytes). (not (same z.0 κ) && given (value k z.1) (same v)) ≡ false) s (or_parts _ _ h).0 in
-      both_ways (given (value k p.1) (same v)) (and_second _ _ (not_from_false _ o) f) (ap (λ u. given u (same v)) e ∙ is_same v v refl)
-  elsewhere_none (q ∷ ps) p h (inr i) e o = elsewhere_none ps p (or_parts _ _ h).1 i e o
+  elsewhere_none (q ∷ ps) p h i e o = let more = elsewhere_none ps p in let r = is_same v v refl in grind arith
 
 -- the record r under κ shares no value, so no other record has one of its values
 shares_none : (k : AlternateKey) (ps : List (Bytes × Bytes)) (κ η r t v : Bytes) → shares ps κ r k ≡ false → k.unique ≡ true → value k r ≡ Some v → under η ps ≡ Some t → value k t ≡ Some v → same κ η ≡ false → ⊥
 shares_none k ps κ η r t v h u e p q o =
-    let f : held_elsewhere k κ v ps ≡ false = ap (λ z. given z (λ w. held_elsewhere k κ w ps)) (sym e) ∙ and_second _ _ u h in
-    elsewhere_none k κ v ps (η, t) f (in_from_under η t ps p) q (same-flip κ η o)
+    elsewhere_none k κ v ps (η, t) (grind arith) (in_from_under η t ps p) q (same-flip κ η o)
 
 -- ---- one record changes
 
@@ -58,7 +49,7 @@ module _ (ks : List AlternateKey) (κ : Bytes) (ps qs : List (Bytes × Bytes)) (
 
 module _ (ks : List AlternateKey) (κ r : Bytes) (ps : List (Bytes × Bytes)) (once : UniqueOnce ks ps) where
   alone_by : (qs : List (Bytes × Bytes)) → under κ qs ≡ Some r → is_some (lowest_path 1 ks (shares ps κ r)) ≡ false → (t : Bytes) → under κ qs ≡ Some t → (i : ℕ) (k : AlternateKey) → nth_key ks i ≡ Some k → shares ps κ t k ≡ false
-  alone_by qs p h t q i k at = subst (λ z. shares ps κ z k ≡ false) (some_same r t (sym p ∙ q)) (none_passes (shares ps κ r) ks 1 i k h at)
+  alone_by qs p h t q i k at = subst (λ z. shares ps κ z k ≡ false) (same_Some r t (sym p ∙ q)) (none_passes (shares ps κ r) ks 1 i k h at)
 
   pub once_placed : under κ ps ≡ None → is_some (lowest_path 1 ks (shares ps κ r)) ≡ false → UniqueOnce ks (placed κ r ps)
   once_placed n h =
@@ -70,14 +61,13 @@ module _ (ks : List AlternateKey) (κ r : Bytes) (ps : List (Bytes × Bytes)) (o
 
 pub once_without : (ks : List AlternateKey) (κ : Bytes) (ps : List (Bytes × Bytes)) → UniqueOnce ks ps → UniqueOnce ks (without κ ps)
 once_without ks κ ps once =
-    once_changed ks κ ps (without κ ps) once (λ η o. removed_elsewhere κ η o ps) (λ r p. absurd (never_some r (sym (removed_here κ ps) ∙ p)))
+    once_changed ks κ ps (without κ ps) once (λ η o. removed_elsewhere κ η o ps) (λ r p. absurd (none-some r (sym (removed_here κ ps) ∙ p)))
 
 -- ---- all records at once
 
 any_none : (all ps : List (Bytes × Bytes)) (k : AlternateKey) (p : Bytes × Bytes) → any_shares all ps k ≡ false → In p ps → shares all p.0 p.1 k ≡ false
 any_none all [] k p h i = absurd i
-any_none all (q ∷ ps) k p h (inl e) = subst (λ (z : Bytes × Bytes). shares all z.0 z.1 k ≡ false) e (or_parts _ _ h).0
-any_none all (q ∷ ps) k p h (inr i) = any_none all ps k p (or_parts _ _ h).1 i
+any_none all (q ∷ ps) k p h i = let more = any_none all ps k p in grind arith
 
 pub once_of_any : (ks : List AlternateKey) (ps : List (Bytes × Bytes)) → is_some (lowest_path 1 ks (any_shares ps ps)) ≡ false → UniqueOnce ks ps
 once_of_any ks ps h i k at u κ η r t v p q e f = go (same_cases κ η)

@@ -1,11 +1,12 @@
 -- Access, exclusion and positioning by their codes, and when two opens exclude each other.
-use Rattle.std.specs.Prelude.{◌≡◌, ℕ, Bool, true, false, cond, ◌&&◌, ◌||◌, Some, None, Option, ◌==◌}
+use Rattle.std.specs.Prelude.{◌≡◌, ℕ, Bool, true, false, cond, ◌&&◌, ◌||◌, Some, None, Option, Result, ok_or, ◌==◌}
 use Rattle.file_rules.specs.declared.modes.AccessMode.{AccessMode}
 use Rattle.file_rules.specs.declared.modes.AccessMode.TheVariants.{ReadWrite, ReadOnly, WriteOnly}
 use Rattle.file_rules.specs.declared.modes.ExclusionMode.{ExclusionMode}
 use Rattle.file_rules.specs.declared.modes.ExclusionMode.TheVariants.{Shared, Exclusive, Protected}
 use Rattle.file_rules.specs.declared.modes.PositioningMode.{PositioningMode}
 use Rattle.file_rules.specs.declared.modes.PositioningMode.TheVariants.{Approximate, Generic, Exact}
+use Rattle.file_rules.specs.declared.modes.UnknownCode.{UnknownCode}
 
 abbrev pub access_of : ℕ → Option AccessMode
 access_of n = cond (n == 0) (Some ReadWrite) (cond (n == 1) (Some ReadOnly) (cond (n == 2) (Some WriteOnly) None))
@@ -15,6 +16,10 @@ exclusion_of n = cond (n == 0) (Some Shared) (cond (n == 1) (Some Exclusive) (co
 
 abbrev pub positioning_of : ℕ → Option PositioningMode
 positioning_of n = cond (n == 0) (Some Approximate) (cond (n == 1) (Some Generic) (cond (n == 2) (Some Exact) None))
+
+-- the result is the mode that the code names, or an error with the code where it names none
+abbrev pub DecodesBy : {A : Type 0} → (ℕ → Option A) → ℕ → Result A UnknownCode → Type 0
+DecodesBy mode_of code r = r ≡ ok_or (mode_of code) (record { 0 = code })
 
 abbrev pub may_read : AccessMode → Bool
 may_read ReadWrite = true

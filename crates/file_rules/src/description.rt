@@ -2,20 +2,20 @@
 ghost use Rattle.std.specs.Prelude.{◌≡◌};
 ghost use Rattle.file_rules.specs.Descriptions.{kind_of, key_length};
 
-use storage::FileKind;
+use storage::{FileKind, NUMBER_LEN};
 
 // The two bytes that name an alternate key.
 pub type KeySpecifier = [u8; 2];
 
 // Bytes at a fixed place in a record.
-#[derive(Clone, Copy)]
+#[derive(Clone, Copy, PartialEq, Eq, Debug)]
 pub struct KeyField {
     pub offset: usize,
     pub len: usize,
 }
 
 // A field that gives a further path to the records.
-#[derive(Clone, Copy)]
+#[derive(Clone, Copy, PartialEq, Eq, Debug)]
 pub struct AlternateKey {
     pub specifier: KeySpecifier,
     pub field: KeyField,
@@ -27,14 +27,14 @@ pub struct AlternateKey {
 
 // What a file goes by. The key is a field of the record in a key-sequenced file alone; elsewhere it is the record
 // number in four bytes.
-#[derive(Clone, Copy)]
+#[derive(Clone, Copy, PartialEq, Eq, Debug)]
 pub enum Organization {
     Relative,
     EntrySequenced,
     KeySequenced(KeyField),
 }
 
-#[derive(Clone, Copy)]
+#[derive(Clone, Copy, PartialEq, Eq, Debug)]
 pub struct FileDescription<'a> {
     pub organization: Organization,
     pub max_record_len: usize,
@@ -61,7 +61,7 @@ impl Organization {
         ensures { result ≡ key_length self }
     {
         match self {
-            Organization::Relative | Organization::EntrySequenced => 4,
+            Organization::Relative | Organization::EntrySequenced => NUMBER_LEN,
             Organization::KeySequenced(field) => field.len,
         }
     }

@@ -1,9 +1,10 @@
 // Why a call is refused: a number, the layer that it belongs to and a key.
 ghost use Rattle.std.specs.Prelude.{◌≡◌};
 ghost use Rattle.file_rules.specs.Faults.{number_of, layer_of, key_of};
-ghost use Rattle.file_rules.specs.declared.fault.CallFault.TheVariants.{Primary as primary_fault, Rows as row_fault};
+ghost use Rattle.file_rules.specs.declared.fault.CallFault.TheVariants.{IllegalCount as illegal_count, Primary as primary_fault, Rows as row_fault};
 ghost use Rattle.storage.specs.declared.faults.PrimaryFault.TheVariants.{NotFound as not_found};
 
+use crate::modes::UnknownCode;
 use storage::{Absent, PrimaryFault, RowFault};
 
 // The faults of the call itself by the manual's names, and those of the files below carried whole.
@@ -55,7 +56,7 @@ impl CallFault {
         }
     }
 
-    // 1 is the call, 2 the primary file, 3 the key rows.
+    // 1 is the call, 2 the primary file, 3 the key rows: an enum of these would only repeat what the variants say.
     pub fn layer(self) -> u8
         ensures { result ≡ layer_of self }
     {
@@ -66,7 +67,7 @@ impl CallFault {
         }
     }
 
-    // The path whose unique value clashes, and 0 for every other fault.
+    // The path whose unique value clashes, and 0 for every other fault: an answer has a number here in any case.
     pub fn key(self) -> u8
         ensures { result ≡ key_of self }
     {
@@ -80,16 +81,16 @@ impl CallFault {
 impl From<PrimaryFault> for CallFault {
     ghost from_gives = { λ x y. y ≡ primary_fault x };
 
-    fn from(fault: PrimaryFault) -> CallFault {
-        CallFault::Primary(fault)
+    fn from(fault: PrimaryFault) -> Self {
+        Self::Primary(fault)
     }
 }
 
 impl From<RowFault> for CallFault {
     ghost from_gives = { λ x y. y ≡ row_fault x };
 
-    fn from(fault: RowFault) -> CallFault {
-        CallFault::Rows(fault)
+    fn from(fault: RowFault) -> Self {
+        Self::Rows(fault)
     }
 }
 
@@ -97,7 +98,16 @@ impl From<RowFault> for CallFault {
 impl From<Absent> for CallFault {
     ghost from_gives = { λ _ y. y ≡ primary_fault not_found };
 
-    fn from(_fault: Absent) -> CallFault {
-        CallFault::Primary(PrimaryFault::NotFound)
+    fn from(_fault: Absent) -> Self {
+        Self::Primary(PrimaryFault::NotFound)
+    }
+}
+
+// A code that names no mode is out of range.
+impl From<UnknownCode> for CallFault {
+    ghost from_gives = { λ _ y. y ≡ illegal_count };
+
+    fn from(_code: UnknownCode) -> Self {
+        Self::IllegalCount
     }
 }

@@ -10,4 +10,4 @@ mod modes;
 pub use bounds::{HIGHEST_OFFSET, MOST_ALTERNATE_KEYS};
 pub use description::{AlternateKey, FileDescription, KeyField, KeySpecifier, Organization};
 pub use fault::CallFault;
-pub use modes::{AccessMode, ExclusionMode, PositioningMode, excludes};
+pub use modes::{AccessMode, ExclusionMode, OpenModes, PositioningMode, UnknownCode};
