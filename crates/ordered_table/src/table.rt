@@ -14,6 +14,7 @@ pub struct OrderedTable<'a, E: Ord> {
     cells: &'a mut [E],
     used: usize,
     ghost within: { used ≤ length cells.now },
+    // for those who hold a table: their proofs know no width of its private fields
     ghost countable: { used < 2 ^ 64 },
     ghost ascending: { Ascending E.Ord.cmp (take used cells.now) },
 }

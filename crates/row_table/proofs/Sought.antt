@@ -1,5 +1,5 @@
 -- The rows of a table, and what a search for a string answers of them. Assumes nothing.
-use Rattle.std.proofs.Common.{◌≡◌, ℕ, suc, ◌+◌, ◌<◌, Bool, true, false, cond, T, leb, List, [], ◌∷◌, map, length, take, Ok, Err, sym, refl, ap, ◌∙◌, subst, add-one, arith}
+use Rattle.std.proofs.Common.{◌≡◌, ℕ, suc, ◌+◌, ◌<◌, Bool, true, false, cond, T, leb, List, [], ◌∷◌, map, length, take, Ok, Err, sym, ap, ◌∙◌, subst, add-one, arith}
 use Rattle.std.proofs.lemmas.List.{length-take}
 use Rattle.std.proofs.lemmas.Bool.{le-leb}
 use Rattle.byte_strings.specs.declared.string.ByteString.{ByteString}
@@ -9,10 +9,7 @@ use Rattle.ordered_table.specs.Entries.{entries}
 use Rattle.ordered_table.specs.Table.{holds, place, searched}
 use Rattle.ordered_table.proofs.Edits.{both}
 use Rattle.ordered_table.proofs.Outcomes.{is_there, not_there}
-use Rattle.storage.specs.declared.mark.PositionMark.{PositionMark}
-use Rattle.storage.specs.declared.mark.PositionMark.TheVariants.{At, Beyond}
 use Rattle.storage.specs.Pairs.{short}
-use Rattle.storage.specs.Places.{next_place}
 use Rattle.storage.proofs.Long.{holds-long, place-long}
 use Rattle.row_table.specs.declared.table.RowTable.{RowTable}
 use Rattle.row_table.specs.Tables.{rows, rows_ascend}
@@ -39,19 +36,3 @@ module _ (t : RowTable) (string : Bytes) (long : 66 < length string) where
 
   pub long_missed : (at : ℕ) → Err at ≡ searched order (rows t) (take 66 string) → Err at ≡ searched order (rows t) string
   long_missed at e = behind false at (not_there (holds order (rows t) (take 66 string)) (place order (rows t) (take 66 string)) at e)
-
--- where the next row stands, by what a search answered
-module _ (mark : PositionMark) (there : Bool) (at : ℕ) where
-  pub next_beyond : (i : ℕ) → mark ≡ Beyond → Ok i ≡ cond there (Ok at) (Err at) → i + 1 ≡ next_place mark there at
-  next_beyond i m e = let f = is_there there at i e in add-one i ∙ (λ t. next_place (sym m t) (sym f.0 t) (sym f.1 t))
-
-  pub next_here : (i : ℕ) → mark ≡ At → Ok i ≡ cond there (Ok at) (Err at) → i ≡ next_place mark there at
-  next_here i m e = let f = is_there there at i e in sym f.1 ∙ ap (λ k. next_place k there at) (sym m)
-
-missed_place : (mark : PositionMark) (i : ℕ) → i ≡ next_place mark false i
-missed_place At i = refl
-missed_place Beyond i = refl
-
-pub next_missed : (mark : PositionMark) (there : Bool) (at i : ℕ) → Err i ≡ cond there (Ok at) (Err at) → i ≡ next_place mark there at
-next_missed mark there at i e =
-    let f = not_there there at i e in missed_place mark i ∙ (λ t. next_place mark (sym f.0 t) (sym f.1 t))
