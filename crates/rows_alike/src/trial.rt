@@ -79,7 +79,8 @@ impl<T: KeyRowFile, C: KeyRowFile> Trial<T, C> {
         let by_chain = self.chain.fetch(row, &mut right);
         let there = is_present(&self.table, row);
         let also = is_present(&self.chain, row);
-        self.tally.note_like(by_table == by_chain && left == right && there == also);
+        self.tally
+            .note_like(by_table == by_chain && left == right && there == also);
         self.tally.note_reading(there);
     }
 
@@ -88,7 +89,11 @@ impl<T: KeyRowFile, C: KeyRowFile> Trial<T, C> {
         let heap = rt.alloc();
         let by_table = list_rows(heap, &self.table)?;
         let by_chain = list_rows(heap, &self.chain)?;
-        println!(rt; "rows at the end: {} and {}", by_table.len(), by_chain.len())?;
+        println!(rt;
+            "rows at the end: {} and {}",
+            by_table.len(),
+            by_chain.len()
+        )?;
         if by_table == by_chain {
             println!(rt; "the same rows in the same order")?;
         } else {
