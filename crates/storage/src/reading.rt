@@ -22,9 +22,10 @@ pub trait OrderedReading {
     fn total(&self) -> usize
         ensures { result ≡ total (pairs self.now) };
 
-    // The lowest key at or above `from`, or strictly above it: its whole length, if there is one. The key fills the
-    // front of the buffer, cut to the buffer's length.
-    fn find(&self, from: &[u8], mark: PositionMark, key: &mut [u8]) -> Option<usize>
+    // The lowest key at or above `from`, or strictly above it: whether there is one, and its whole length. The key
+    // fills the front of the buffer, cut to the buffer's length. The rules want this pair of every file, in the place of
+    // an `Option`.
+    fn find(&self, from: &[u8], mark: PositionMark, key: &mut [u8]) -> (bool, usize)
         ensures value { result ≡ found (next mark from.now (keys (pairs self.now))) }
         ensures after { key.new ≡ filled (next mark from.now (keys (pairs self.now))) key.old };
 
