@@ -22,7 +22,7 @@ impl OrderedReading for RowChain<'_> {
         0
     }
 
-    fn find(&self, from: &[u8], mark: PositionMark, key: &mut [u8]) -> Option<usize> {
+    fn find(&self, from: &[u8], mark: PositionMark, key: &mut [u8]) -> (bool, usize) {
         fill_found(self.next(from, mark), key)
     }
 

@@ -1,5 +1,5 @@
 -- From one key of an ascending list to the next. Assumes nothing.
-use Rattle.std.proofs.Common.{◌≡◌, ℕ, zero, suc, ◌+◌, ◌-◌, ◌<◌, min, true, cond, not, T, leb, List, [], ◌∷◌, ◌++◌, map, length, get_or, take, drop, Some, None, Option, Bor, sym, refl, ap, ◌∙◌, le_of_suc-le-suc, not-suc-le-zero, arith}
+use Rattle.std.proofs.Common.{◌≡◌, ℕ, zero, suc, ◌+◌, ◌-◌, ◌<◌, min, Bool, true, cond, not, T, leb, List, [], ◌∷◌, ◌++◌, map, length, get_or, take, drop, Some, None, Option, Bor, sym, refl, ap, ◌∙◌, le_of_suc-le-suc, not-suc-le-zero, true≢false, arith}
 use Rattle.std.specs.List.{slice_get}
 use Rattle.std.specs.Option.{option_copied, option_map}
 use Rattle.std.proofs.lemmas.List.{length-map, length-take, take_all, take_at, take_more, take-take, get_or-take, map_push}
@@ -20,10 +20,10 @@ use Rattle.storage.proofs.Places.{next-at}
 
 -- ---- a key that came into a buffer of a row's length
 
-pub cut_key : (o : Option Bytes) (buffer filling : Bytes) (len n : ℕ) → length buffer ≡ 66 → Some len ≡ found o → n ≡ min len 66 → filling ≡ filled o buffer → Some (take 66 (take (n - 0) filling)) ≡ option_map (take 66) o
-cut_key None buffer filling len n l s e b = absurd (cc)
-cut_key (Some k) buffer filling len n l s e b =
-    let whole : len ≡ length k = cc in
+pub cut_key : (o : Option Bytes) (buffer filling : Bytes) (answer : Bool × ℕ) (n : ℕ) → length buffer ≡ 66 → answer ≡ found o → answer.0 ≡ true → n ≡ min answer.1 66 → filling ≡ filled o buffer → Some (take 66 (take (n - 0) filling)) ≡ option_map (take 66) o
+cut_key None buffer filling answer n l s there e b = absurd (true≢false (sym there ∙ ap (λ p. p.0) s))
+cut_key (Some k) buffer filling answer n l s there e b =
+    let whole : answer.1 ≡ length k = ap (λ p. p.1) s in
     let m = length-take (length buffer) k in
     let fills : length (take (length buffer) k) ≡ n - 0 = omega arith in
     ap Some

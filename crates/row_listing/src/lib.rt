@@ -41,6 +41,9 @@ fn next_row<R: OrderedReading>(file: &R, from: &[u8], mark: PositionMark) -> Opt
     ensures { option_map text result ≡ option_map (take 66) (next mark from.now (keys (R.OrderedReading.pairs file.now))) }
 {
     let mut buffer = [0; LONGEST_ROW];
-    let len = file.find(from, mark, &mut buffer)?;
+    let (found, len) = file.find(from, mark, &mut buffer);
+    if !found {
+        return None;
+    }
     Some(KeyRow::front_of(&buffer[0..len.min(LONGEST_ROW)]))
 }
