@@ -1,14 +1,15 @@
 // Linked slots of which none is lost, and whose rows ascend along their chain.
-ghost use Rattle.std.specs.Prelude.{◌≡◌, ◌≤◌, [], length, is_ok, slice_get, MatchResult};
+ghost use Rattle.std.specs.Prelude.{◌≡◌, ◌≤◌, [], length, is_ok, MatchResult};
 ghost use Rattle.std.specs.Option.{option_map};
 ghost use Rattle.byte_strings.specs.Bytes.{order};
-ghost use Rattle.ordered_table.specs.Table.{Ascending, holds};
+ghost use Rattle.ordered_table.specs.Table.{Ascending, holds, place};
 ghost use Rattle.storage.specs.Checks.{first, settled};
 ghost use Rattle.storage.specs.Pairs.{next};
+ghost use Rattle.storage.specs.Places.{next_place};
 ghost use Rattle.storage.specs.Refusals.{verdict};
 ghost use Rattle.storage.specs.Rows.{limit_checks};
 ghost use Rattle.row_chain.specs.Chains.{Whole, rows};
-ghost use Rattle.row_chain.specs.Links.{links, follow};
+ghost use Rattle.row_chain.specs.Links.{links, follow, slot_before};
 ghost use Rattle.row_chain.specs.Seats.{Seated};
 
 use crate::links::LinkedSlots;
@@ -85,28 +86,31 @@ impl<'a> RowChain<'a> {
         })
     }
 
-    // The row that comes next from there on, if any is left.
+    // The lowest row at or above the string, or strictly above it.
     pub(crate) fn next(&self, from: &[u8], mark: PositionMark) -> Option<&[u8]>
         ensures { option_map (λ row. row.now) result ≡ next mark from.now (rows self.now.linked) }
     {
-        match (self.seek(from), mark) {
-            (Ok(seat), PositionMark::Beyond) => {
-                self.row_at(seat.index + 1, self.linked.slots[seat.at].next)
-            }
-            (Ok(seat), PositionMark::At) => self.row_at(seat.index, seat.at),
-            (Err(seat), _) => self.row_at(seat.index, seat.at),
-        }
-    }
-
-    // The row of that index, if there is one, from the slot to which as many links lead.
-    fn row_at(&self, index: usize, at: usize) -> Option<&[u8]>
-        requires { at ≡ follow (links self.now.linked.slots.now) self.now.linked.head index }
-        ensures { option_map (λ row. row.now) result ≡ slice_get (rows self.now.linked) index }
-    {
-        if index >= self.linked.count {
+        let seat = self.seek_next(from, mark);
+        if seat.index >= self.linked.count {
             return None;
         }
         let slots = &*self.linked.slots;
-        Some(slots[at].row.as_slice())
+        Some(slots[seat.at].row.as_slice())
+    }
+
+    // Where it stands, or the seat behind the last row.
+    fn seek_next(&self, from: &[u8], mark: PositionMark) -> Seat
+        ensures index { result.index ≡ next_place mark (holds order (rows self.now.linked) from.now) (place order (rows self.now.linked) from.now) }
+        ensures before { result.before ≡ slot_before (links self.now.linked.slots.now) self.now.linked.head result.index }
+        ensures at { result.at ≡ follow (links self.now.linked.slots.now) self.now.linked.head result.index }
+    {
+        match (self.seek(from), mark) {
+            (Ok(seat), PositionMark::Beyond) => Seat {
+                index: seat.index + 1,
+                before: Some(seat.at),
+                at: self.linked.slots[seat.at].next,
+            },
+            (Ok(seat), PositionMark::At) | (Err(seat), _) => seat,
+        }
     }
 }

@@ -27,10 +27,7 @@ impl OrderedReading for RowChain<'_> {
     }
 
     fn fetch(&self, key: &[u8], bytes: &mut [u8]) -> Result<usize, Absent> {
-        match self.seek(key) {
-            Ok(_) => Ok(0),
-            Err(_) => Err(Absent),
-        }
+        self.seek(key).map(|_| 0).map_err(|_| Absent)
     }
 }
 

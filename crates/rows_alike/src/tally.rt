@@ -53,11 +53,20 @@ fn count(times: &mut u32) {
 impl fmt::Display for Tally {
     fn fmt<W: fmt::Write>(&self, f: &mut fmt::Formatter<W>) -> fmt::Result {
         writeln!(f, "adds and drops accepted: {}", self.accepted)?;
-        writeln!(f,
+        writeln!(
+            f,
             "refused: illegal length {}, present {}, full {}, absent {}",
             self.illegal, self.present, self.full, self.absent
         )?;
-        writeln!(f, "finds and fetches: there {}, none {}", self.read.yes, self.read.no)?;
-        write!(f, "answered alike: {}, unlike: {}", self.compared.yes, self.compared.no)
+        writeln!(
+            f,
+            "finds and fetches: there {}, none {}",
+            self.read.yes, self.read.no
+        )?;
+        write!(
+            f,
+            "answered alike: {}, unlike: {}",
+            self.compared.yes, self.compared.no
+        )
     }
 }

@@ -70,7 +70,8 @@ impl<T: KeyRowFile, C: KeyRowFile> Trial<T, C> {
         let by_table = self.table.find(from, mark, &mut left);
         let by_chain = self.chain.find(from, mark, &mut right);
         self.tally.note_like(by_table == by_chain && left == right);
-        self.tally.note_reading(by_table.0);
+        let (there, _) = by_table;
+        self.tally.note_reading(there);
     }
 
     fn fetch(&mut self, row: &[u8]) {
@@ -79,7 +80,8 @@ impl<T: KeyRowFile, C: KeyRowFile> Trial<T, C> {
         let by_chain = self.chain.fetch(row, &mut right);
         let there = is_present(&self.table, row);
         let also = is_present(&self.chain, row);
-        self.tally.note_like(by_table == by_chain && left == right && there == also);
+        self.tally
+            .note_like(by_table == by_chain && left == right && there == also);
         self.tally.note_reading(there);
     }
 
@@ -88,7 +90,11 @@ impl<T: KeyRowFile, C: KeyRowFile> Trial<T, C> {
         let heap = rt.alloc();
         let by_table = list_rows(heap, &self.table)?;
         let by_chain = list_rows(heap, &self.chain)?;
-        println!(rt; "rows at the end: {} and {}", by_table.len(), by_chain.len())?;
+        println!(rt;
+            "rows at the end: {} and {}",
+            by_table.len(),
+            by_chain.len()
+        )?;
         if by_table == by_chain {
             println!(rt; "the same rows in the same order")?;
         } else {
