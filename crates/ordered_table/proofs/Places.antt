@@ -1,12 +1,11 @@
 -- Where an entry stands among entries that ascend. Assumes nothing.
-use Rattle.std.proofs.Common.{◌≡◌, ℕ, zero, suc, ◌+◌, ◌<◌, ◌≤◌, Bool, true, false, cond, ◌&&◌, T, List, [], ◌∷◌, map, leb, length, get_or, Some, None, Ok, Err, Option, Result, Ordering, Less, Equal, Greater, sym, refl, ap, ◌∙◌, ⊎_elim, true≢false, suc-le-suc, zero-le, le_of_suc-le-suc, not-suc-le-zero, arith, subst, MatchResult}
+use Rattle.std.proofs.Common.{◌≡◌, ℕ, zero, suc, ◌+◌, ◌<◌, ◌≤◌, Bool, true, false, cond, ◌&&◌, T, List, [], ◌∷◌, map, leb, length, get_or, Some, None, Ok, Err, Option, Result, Ordering, Less, Equal, Greater, sym, refl, ap, ◌∙◌, ⊎_elim, true≢false, suc-le-suc, zero-le, le_of_suc-le-suc, not-suc-le-zero, arith, MatchResult}
 use Rattle.std.specs.Cmp.{IsTotalOrder, alike_right}
 use Rattle.std.specs.Ordering.{is_lt, is_eq, ordering_reverse, ordering_index}
 use Rattle.std.specs.List.Sorted.{IsBinarySearchResult, IsNonDecreasingBy}
 use Rattle.std.specs.List.{list_all, find}
 use Rattle.std.specs.Option.{option_map}
 use Rattle.std.specs.Result.{result_ok}
-use Rattle.std.proofs.lemmas.List.{length-map, get_or-map}
 use Rattle.std.proofs.lemmas.List.Sorted.{searchable_from_sorted}
 use Rattle.std.proofs.lemmas.Bool.{cases_eq, cases_lt}
 use Rattle.ordered_table.specs.Table.{Ascending, is_strictly_sorted_by, holds, place, searched, insertion, removal}
@@ -142,6 +141,9 @@ module _ {E K : Type 0} (key : E → K) (cmp : K → K → Ordering) where
   place-keys [] x = refl
   place-keys (y ∷ ys) x = ap (λ n. cond (is_lt (by_key y x)) (suc n) 0) (place-keys ys x)
 
+  pub searched-keys : (xs : List E) (x : E) → searched by_key xs x ≡ searched cmp (map key xs) (key x)
+  searched-keys xs x = λ t. cond (holds-keys xs x t) (Ok (place-keys xs x t)) (Err (place-keys xs x t))
+
   pub insertion-keys : (cells used : ℕ) (xs : List E) (x : E) → insertion by_key cells used xs x ≡ insertion cmp cells used (map key xs) (key x)
   insertion-keys cells used xs x =
       λ t. cond (holds-keys xs x t) (Err Present) (cond (leb cells used) (Err Full) (Ok (place-keys xs x t)))
@@ -156,25 +158,3 @@ module _ {E K : Type 0} (key : E → K) (cmp : K → K → Ordering) where
   pub sorted_keys : (xs : List E) → is_strictly_sorted_by by_key xs ≡ is_strictly_sorted_by cmp (map key xs)
   sorted_keys [] = refl
   sorted_keys (x ∷ xs) = λ t. pass_keys x xs t && sorted_keys xs t
-
-module _ {E K : Type 0} (key : E → K) where
-  at_key : (P : K → Type 0) (xs : List E) (i : ℕ) (d : K) → i < length xs → ((e : E) → P (key (get_or xs i e))) → P (get_or (map key xs) i d)
-  at_key P [] i d l h = absurd (not-suc-le-zero l)
-  at_key P (y ∷ ys) zero d l h = h y
-  at_key P (y ∷ ys) (suc i) d l h = at_key P ys i d (le_of_suc-le-suc l) h
-
-  -- what a binary search by the keys located is what a search among the keys is to answer
-  pub located_by : {R : K → K → Ordering} (o : IsTotalOrder R) (xs : List E) (x : K) (r : Result ℕ ℕ) → Ascending R (map key xs) → MatchResult r (λ i. i < length xs) (λ i. i ≤ length xs) → IsBinarySearchResult (λ y. R (key y) x) xs r → r ≡ searched R (map key xs) x
-  located_by {R} o xs x (Ok i) up b h =
-      let n = length-map xs key in
-      located_is o (map key xs) x (Ok i) up (omega arith) (λ d. at_key (λ k. R k x ≡ Equal) xs i d b h)
-  located_by {R} o xs x (Err i) up b h =
-      let n = length-map xs key in
-      let rising : IsNonDecreasingBy (λ y. ordering_index (R (key y) x)) xs =
-      λ i j d le l.
-      subst (λ k. ordering_index (R k x) ≤ ordering_index (R (key (get_or xs j d)) x)) (get_or-map key xs i d (key d) (omega arith))
-      (subst (λ k. ordering_index (R (get_or (map key xs) i (key d)) x) ≤ ordering_index (R k x)) (get_or-map key xs j d (key d) l)
-      (rises o (map key xs) x up i j (key d) le (omega arith))) in
-      let p = h rising in
-      located_is o (map key xs) x (Err i) up (omega arith)
-      (λ _. (λ k d z l. at_key (λ y. R y x ≡ Less) xs k d (omega arith) (λ e. p.0 k e z l), λ k d z l. at_key (λ y. R y x ≡ Greater) xs k d (omega arith) (λ e. p.1 k e z (omega arith))))

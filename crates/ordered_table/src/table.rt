@@ -1,6 +1,6 @@
 // A table of entries over cells that a caller lends. The entries stand at the front, strictly ascending; the cells
 // behind them are free.
-ghost use Rattle.std.specs.Prelude.{◌≡◌, ◌<◌, ◌≤◌, [], length, take, MatchResult};
+ghost use Rattle.std.specs.Prelude.{◌≡◌, ◌^◌, ◌<◌, ◌≤◌, [], length, take, MatchResult};
 ghost use Rattle.std.specs.List.{find};
 ghost use Rattle.std.specs.Option.{option_copied};
 ghost use Rattle.std.specs.Ordering.{is_eq};
@@ -14,6 +14,8 @@ pub struct OrderedTable<'a, E: Ord> {
     cells: &'a mut [E],
     used: usize,
     ghost within: { used ≤ length cells.now },
+    // for those who hold a table: their proofs know no width of its private fields
+    ghost countable: { used < 2 ^ 64 },
     ghost ascending: { Ascending E.Ord.cmp (take used cells.now) },
 }
 
@@ -42,7 +44,7 @@ impl<'a, E: Ord> OrderedTable<'a, E> {
     }
 
     // Where the entry equal to the probe stands, or where one would go in.
-    fn search(&self, probe: &E) -> Result<usize, usize>
+    pub fn search(&self, probe: &E) -> Result<usize, usize>
         ensures bound { MatchResult result (λ at. at < length (entries self.now)) (λ at. at ≤ length (entries self.now)) }
         ensures value { result ≡ searched E.Ord.cmp (entries self.now) probe.now }
     {

@@ -1,5 +1,5 @@
 // A table of rows, strictly ascending: making one, and searching it.
-ghost use Rattle.std.specs.Prelude.{◌≡◌, ◌+◌, ◌^◌, ◌<◌, [], length, IfOk, MatchResult};
+ghost use Rattle.std.specs.Prelude.{◌≡◌, [], length, MatchResult};
 ghost use Rattle.std.specs.Option.{option_map};
 ghost use Rattle.byte_strings.specs.Bytes.{order};
 ghost use Rattle.ordered_table.specs.Table.{searched, holds, place};
@@ -9,9 +9,8 @@ ghost use Rattle.storage.specs.Places.{next_place};
 ghost use Rattle.storage.specs.Refusals.{verdict};
 ghost use Rattle.storage.specs.Rows.{limit_checks};
 
-use byte_strings::compare;
 use ordered_table::OrderedTable;
-use storage::{KeyRow, PositionMark, Refused, RowFault, RowSpace};
+use storage::{KeyRow, LONGEST_ROW, PositionMark, Refused, RowFault, RowSpace};
 
 #[derive(Drop)]
 pub struct RowTable<'a> {
@@ -36,14 +35,19 @@ impl<'a> RowTable<'a> {
         })
     }
 
-    // Where the string stands among the rows, or would stand.
+    // Where the string stands among the rows, or would stand. One that is longer than any row comes right behind its
+    // front.
     pub(crate) fn seek(&self, string: &[u8]) -> Result<usize, usize>
-        ensures value { result ≡ searched order (rows self.now) string.now }
-        ensures next_fits { IfOk result (λ at. at + 1 < 2 ^ 64) }
+        ensures { result ≡ searched order (rows self.now) string.now }
     {
-        self.rows
-            .as_slice()
-            .binary_search_by(|row| compare(row.as_slice(), string))
+        let place = self.rows.search(&KeyRow::front_of(string));
+        if string.len() <= LONGEST_ROW {
+            return place;
+        }
+        match place {
+            Ok(at) => Err(at + 1),
+            Err(at) => Err(at),
+        }
     }
 
     // The lowest row at or above the string, or strictly above it.

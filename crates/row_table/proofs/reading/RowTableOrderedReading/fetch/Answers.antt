@@ -30,5 +30,5 @@ pub returns : goal.returns
 returns c =
     let m : MatchResult c.seek.result (λ _. IsOkAnd c.map.result (λ n. n ≡ 0)) (λ at. c.map.result ≡ Err at) = search rules in
     let n : MatchResult c.map.result (λ n. c.map_err.result ≡ Ok n) (λ _. IsErrAnd c.map_err.result (λ f. f ≡ record {})) = search rules in
-    let h = answers (rows c.args.self.now) c.args.key.now c.args.bytes.now c.seek.result c.map.result c.map_err.result c.seek.ensures.value m n in
+    let h = answers (rows c.args.self.now) c.args.key.now c.args.bytes.now c.seek.result c.map.result c.map_err.result c.seek.ensures m n in
     record { value = h.0; after = h.1 }

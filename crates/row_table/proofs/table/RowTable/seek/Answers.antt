@@ -1,16 +1,37 @@
-use Rattle.std.proofs.Common.{rules}
-use Rattle.std.proofs.lemmas.Fn.{always_returns_same}
+use Rattle.std.proofs.Common.{◌+◌, ◌^◌, ◌<◌, length, take, ap, ◌∙◌, arith, rules}
+use Rattle.std.proofs.lemmas.List.{length-take, take_all}
 use Rattle.byte_strings.specs.Bytes.{order}
 use Rattle.byte_strings.specs.Texts.{text}
-use Rattle.byte_strings.proofs.TotalOrder.{total_order}
 use Rattle.ordered_table.specs.Entries.{entries}
-use Rattle.ordered_table.proofs.Places.{located_by}
-use Rattle.row_table.specs.Tables.{rows_ascend}
+use Rattle.ordered_table.specs.Table.{searched}
+use Rattle.ordered_table.proofs.Places.{searched-keys}
+use Rattle.row_table.specs.Tables.{rows}
+use Rattle.row_table.proofs.Sought.{long_found, long_missed}
 use Rattle.row_table.proofs.table.RowTable.seek.Goals as goal
 
-pub returns-clause-value : goal.returns-clause-value
-returns-clause-value c =
+pub returns-then-string-le-LONGEST_ROW : goal.returns-then-string-le-LONGEST_ROW
+returns-then-string-le-LONGEST_ROW c =
     let t = c.args.self.now in
-    let string = c.args.string.now in
-    let told = c.binary_search_by.ensures.position (λ row. order (text row) string) (always_returns_same _ _ _ (λ a r f' k. search rules)) in
-    located_by text total_order (entries t.rows) string c.binary_search_by.result (rows_ascend t) (rw c.as_slice.ensures at c.binary_search_by.ensures.bound) (rw c.as_slice.ensures at told)
+    c.search-place.ensures.value
+    ∙ (searched-keys text order (entries t.rows) c.front_of.result
+    ∙ ap (searched order (rows t)) (c.front_of.ensures ∙ take_all 66 c.args.string.now c.if-string-le-LONGEST_ROW.true))
+
+pub overflow_add-result : goal.overflow_add-result
+overflow_add-result c =
+    let t = c.args.self.now.rows in
+    let b : c.in-Ok.at < length (take t.used t.cells.now) = c.in-Ok.ensures.bound in
+    let n = length-take t.used t.cells.now in
+    let l : c.in-Ok.at + 1 < 2 ^ 64 = omega (arith, t.countable) in
+    search rules
+
+pub returns-in-Ok : goal.returns-in-Ok
+returns-in-Ok c =
+    let t = c.args.self.now in
+    long_found t c.args.string.now c.if-string-le-LONGEST_ROW.false c.in-Ok.at
+    (c.in-Ok.ensures.value ∙ (searched-keys text order (entries t.rows) c.front_of.result ∙ ap (searched order (rows t)) c.front_of.ensures))
+
+pub returns-in-Err : goal.returns-in-Err
+returns-in-Err c =
+    let t = c.args.self.now in
+    long_missed t c.args.string.now c.if-string-le-LONGEST_ROW.false c.in-Err.at
+    (c.in-Err.ensures.value ∙ (searched-keys text order (entries t.rows) c.front_of.result ∙ ap (searched order (rows t)) c.front_of.ensures))
