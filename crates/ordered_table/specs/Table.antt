@@ -13,6 +13,7 @@ use Rattle.ordered_table.specs.declared.fault.InsertFault.{InsertFault}
 use Rattle.ordered_table.specs.declared.fault.InsertFault.TheVariants.{Present, Full}
 
 module _ {E : Type 0} (cmp : E → E → Ordering) where
+  -- a test, which computes in each goal: std's IsStrictlySortedBy says the same, and stays shut until it is unfolded
   abbrev pub is_strictly_sorted_by : List E → Bool
   is_strictly_sorted_by [] = true
   is_strictly_sorted_by (x ∷ xs) = list_all (λ y. is_lt (cmp x y)) xs && is_strictly_sorted_by xs

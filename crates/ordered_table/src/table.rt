@@ -37,6 +37,7 @@ impl<'a, E: Ord> OrderedTable<'a, E> {
         self.cells.len()
     }
 
+    // The entries, in their order.
     pub fn as_slice(&self) -> &[E]
         ensures { result.now ≡ entries self.now }
     {
