@@ -11,6 +11,7 @@ use std::alloc::Global;
 use std::collections::HashMap;
 use std::collections::hash_map::Entry;
 use std::io;
+use std::io::BufRead;
 use storage::{KeyRow, KeyRowFile};
 
 // The deliveries taken in, and the files with their rows.
@@ -31,10 +32,11 @@ impl<T: KeyRowFile, C: KeyRowFile> Batch<T, C> {
     // Takes in a delivery a line, and says why a line is passed over.
     pub(crate) fn take_in_lines(
         &mut self,
-        rt: &(impl AllocGlobal + Input + Print),
+        rt: &(impl AllocGlobal + Print),
+        input: impl BufRead + Drop,
     ) -> anyhow::Result<()> {
         let heap = rt.alloc();
-        for (i, line) in rt.lines(heap).enumerate() {
+        for (i, line) in input.lines(heap).enumerate() {
             if let Err(flaw) = self.take_in(heap, line?.as_str()) {
                 println!(rt; "line {}: {flaw}", i + 1)?;
             }

@@ -1,11 +1,20 @@
 // A code of N ASCII characters, as a key and a region are.
-ghost use Rattle.std.specs.Prelude.{◌≡◌};
+ghost use Rattle.std.specs.Prelude.{◌≡◌, ℕ, List, length};
 
 use std::fmt;
+use std::marker::Model;
 
 #[derive(Clone, Copy, PartialEq, Eq, Hash)]
 pub(crate) struct Code<const N: usize> {
     bytes: [u8; N],
+}
+
+impl<const N: usize> Model for Code<N> {
+    ghost Value = { List ℕ };
+
+    ghost view = { λ code. code.bytes };
+
+    ghost inverse = { λ bytes. record { bytes = bytes } };
 }
 
 impl<const N: usize> Code<N> {
@@ -18,14 +27,15 @@ impl<const N: usize> Code<N> {
     }
 
     pub(crate) fn as_bytes(&self) -> &[u8]
-        ensures { result.now ≡ self.now.bytes }
+        ensures bytes { result.now ≡ self.now }
+        ensures len { length self.now ≡ N }
     {
         &self.bytes
     }
 }
 
 impl<const N: usize> From<[u8; N]> for Code<N> {
-    ghost from_gives = { λ bytes code. code.bytes ≡ bytes };
+    ghost from_gives = { λ bytes code. code ≡ bytes };
 
     fn from(bytes: [u8; N]) -> Code<N> {
         Code { bytes }

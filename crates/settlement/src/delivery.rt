@@ -46,7 +46,7 @@ impl Delivery {
 
     // The row of this delivery in the key-row file: specifier, region, key.
     pub(crate) fn row(&self) -> KeyRow
-        ensures { text result ≡ codes "RG" ++ self.now.region.bytes ++ self.now.key.bytes }
+        ensures { text result ≡ codes "RG" ++ self.now.region ++ self.now.key }
     {
         let front = KeyRow::joined(&REGION_KEY, self.region.as_bytes());
         KeyRow::joined(front.as_slice(), self.key.as_bytes())

@@ -15,6 +15,7 @@ use batch::Batch;
 use row_chain::{RowChain, Slot};
 use row_table::RowTable;
 use std::env;
+use std::io::BufReader;
 use std::rt::Env;
 use storage::{KeyRow, MOST_ROWS};
 
@@ -24,12 +25,8 @@ const USUAL_ROWS: usize = 4_096;
 const OUT_OF_RANGE: &str = "the row limit is not 1 to 16384";
 
 fn main(rt: HostRuntime) -> anyhow::Result<()> {
-    run(&rt)
-}
-
-fn run(rt: &(impl AllocGlobal + Env + Input + Print)) -> anyhow::Result<()> {
     let heap = rt.alloc();
-    let limit = row_limit(rt)?;
+    let limit = row_limit(&rt)?;
     let held = limit.min(MOST_ROWS);
     let mut cells = vec![in heap; KeyRow::empty(); held]?;
     let mut slots = vec![in heap; Slot::unused(); held]?;
@@ -40,8 +37,8 @@ fn run(rt: &(impl AllocGlobal + Env + Input + Print)) -> anyhow::Result<()> {
         bail!(OUT_OF_RANGE);
     };
     let mut batch = Batch::new(heap, table, chain);
-    batch.take_in_lines(rt)?;
-    batch.print(rt)
+    batch.take_in_lines(&rt, BufReader::new(heap, rt.stdin())?)?;
+    batch.print(&rt)
 }
 
 // The first argument, a number of rows.
