@@ -1,6 +1,8 @@
 // The batch, over any two key-row files.
-ghost use Rattle.std.specs.Prelude.{◌≡◌, OnErr};
+ghost use Rattle.std.specs.Prelude.{◌≡◌, [], IfSome, OnErr};
 ghost use Rattle.std.specs.HashMap.{IsUnchanged};
+ghost use Rattle.byte_strings.specs.Texts.{text};
+ghost use Rattle.settlement.specs.Delivery.{row_of};
 
 use crate::delivery::{Delivery, Key, key_of, region_of};
 use crate::files::BothFiles;
@@ -22,7 +24,11 @@ pub(crate) struct Batch<T: KeyRowFile, C: KeyRowFile> {
 }
 
 impl<T: KeyRowFile, C: KeyRowFile> Batch<T, C> {
-    pub(crate) fn new(heap: Global, table: T, chain: C) -> Batch<T, C> {
+    pub(crate) fn new(heap: Global, table: T, chain: C) -> Batch<T, C>
+        ensures deliveries { result.deliveries.entries ≡ [] }
+        ensures table { result.files.table ≡ table }
+        ensures chain { result.files.chain ≡ chain }
+    {
         Batch {
             deliveries: HashMap::new(heap),
             files: BothFiles { table, chain },
@@ -87,7 +93,9 @@ impl<T: KeyRowFile, C: KeyRowFile> Batch<T, C> {
         Ok(listed)
     }
 
-    fn delivery_of(&self, row: &KeyRow) -> Option<&Delivery> {
+    fn delivery_of(&self, row: &KeyRow) -> Option<&Delivery>
+        ensures { IfSome result (λ delivery. row_of delivery.now.region delivery.now.key ≡ text row.now) }
+    {
         self.deliveries
             .get(&key_of(row)?)
             .filter(|delivery| delivery.row() == *row)

@@ -1,5 +1,5 @@
 // A code of N ASCII characters, as a key and a region are.
-ghost use Rattle.std.specs.Prelude.{◌≡◌, ℕ, List, length};
+ghost use Rattle.std.specs.Prelude.{◌≡◌, ℕ, List, length, IfSome};
 
 use std::fmt;
 use std::marker::Model;
@@ -21,6 +21,7 @@ impl<const N: usize> Code<N> {
     // The word as a code, where it has N bytes and each passes the test.
     pub(crate) fn read<Test: FnMut(&u8) -> bool>(word: &str, test: Test) -> Option<Code<N>>
         requires { Test.IsAlwaysCallable test }
+        ensures { IfSome result (λ code. code ≡ word.now) }
     {
         let bytes: [u8; N] = word.as_bytes().try_into().ok()?;
         bytes.iter().all(test).then_some(Code { bytes })

@@ -1,6 +1,7 @@
 // A delivery, as a line gives it.
-ghost use Rattle.std.specs.Prelude.{◌≡◌, ◌++◌, codes};
+ghost use Rattle.std.specs.Prelude.{◌≡◌, ℕ, List, length, Some};
 ghost use Rattle.byte_strings.specs.Texts.{text};
+ghost use Rattle.settlement.specs.Delivery.{row_of};
 
 use crate::code::Code;
 use crate::flaw::Flaw;
@@ -46,7 +47,7 @@ impl Delivery {
 
     // The row of this delivery in the key-row file: specifier, region, key.
     pub(crate) fn row(&self) -> KeyRow
-        ensures { text result ≡ codes "RG" ++ self.now.region ++ self.now.key }
+        ensures { text result ≡ row_of self.now.region self.now.key }
     {
         let front = KeyRow::joined(&REGION_KEY, self.region.as_bytes());
         KeyRow::joined(front.as_slice(), self.key.as_bytes())
@@ -54,13 +55,17 @@ impl Delivery {
 }
 
 // The key at the end of a row.
-pub(crate) fn key_of(row: &KeyRow) -> Option<Key> {
+pub(crate) fn key_of(row: &KeyRow) -> Option<Key>
+    ensures { (region key : List ℕ) → length key ≡ 6 → text row.now ≡ row_of region key → result ≡ Some key }
+{
     let (_, key) = row.as_slice().split_last_chunk()?;
     Some(Code::from(*key))
 }
 
 // The region before it.
-pub(crate) fn region_of(row: &KeyRow) -> Option<Region> {
+pub(crate) fn region_of(row: &KeyRow) -> Option<Region>
+    ensures { (region key : List ℕ) → length region ≡ 2 → length key ≡ 6 → text row.now ≡ row_of region key → result ≡ Some region }
+{
     let (front, _) = row.as_slice().split_last_chunk::<KEY_LEN>()?;
     Some(Code::from(*front.last_chunk()?))
 }

@@ -1,4 +1,6 @@
 // Amounts in cents, printed with two decimals.
+ghost use Rattle.std.specs.Prelude.{◌≡◌, ◌+◌, ◌-◌, ◌^◌, min};
+
 use crate::flaw::Flaw;
 use std::fmt;
 use std::str::FromStr;
@@ -12,7 +14,9 @@ pub(crate) struct Cents(u64);
 impl Cents {
     pub(crate) const ZERO: Cents = Cents(0);
 
-    pub(crate) fn saturating_add(self, other: Cents) -> Cents {
+    pub(crate) fn saturating_add(self, other: Cents) -> Cents
+        ensures { result.0 ≡ min (self.0 + other.0) (2 ^ 64 - 1) }
+    {
         Cents(self.0.saturating_add(other.0))
     }
 }
