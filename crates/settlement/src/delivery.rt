@@ -55,6 +55,7 @@ impl Delivery {
 }
 
 // The key at the end of a row.
+#[tactic(auto, using(crate::proofs::RowEnds::key_at_end))]
 pub(crate) fn key_of(row: &KeyRow) -> Option<Key>
     ensures { (region key : List ℕ) → length key ≡ 6 → text row.now ≡ row_of region key → result ≡ Some key }
 {
@@ -63,6 +64,7 @@ pub(crate) fn key_of(row: &KeyRow) -> Option<Key>
 }
 
 // The region before it.
+#[tactic(auto, using(crate::proofs::RowEnds::front_of_row, crate::proofs::RowEnds::region_at_end))]
 pub(crate) fn region_of(row: &KeyRow) -> Option<Region>
     ensures { (region key : List ℕ) → length region ≡ 2 → length key ≡ 6 → text row.now ≡ row_of region key → result ≡ Some region }
 {
