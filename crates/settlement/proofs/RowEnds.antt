@@ -1,5 +1,5 @@
 -- What stands at the end of a row: the key, and before it the region.
-use Rattle.std.proofs.Common.{◌≡◌, ℕ, ◌-◌, List, ◌++◌, ◌∷◌, length, take, drop, sym, subst, arith, length-append}
+use Rattle.std.proofs.Common.{◌≡◌, ℕ, ◌-◌, List, ◌++◌, ◌∷◌, length, take, drop, subst, arith, length-append}
 use Rattle.std.proofs.Math.Seq.{take-append_seam, drop-append_seam}
 use Rattle.settlement.specs.Delivery.{row_of}
 
@@ -17,6 +17,3 @@ module _ (region key : List ℕ) (six : length key ≡ 6) where
   front_of_row =
       let front = 82 ∷ 71 ∷ region in
       subst (λ n. take n (front ++ key) ≡ front) (front_length front key 6 six) (take-append_seam front key)
-
-pub region_at_end : (region : List ℕ) → length region ≡ 2 → drop (length (82 ∷ 71 ∷ region) - 2) (82 ∷ 71 ∷ region) ≡ region
-region_at_end region two = let n : length (82 ∷ 71 ∷ region) - 2 ≡ 2 = omega arith in rw n

@@ -82,7 +82,11 @@ impl<T: KeyRowFile, C: KeyRowFile> Batch<T, C> {
     }
 
     // The deliveries in the order of their rows.
-    fn listed(&self, rt: &(impl AllocGlobal + Print), rows: &[KeyRow]) -> io::Result<Vec<&Delivery>> {
+    fn listed(
+        &self,
+        rt: &(impl AllocGlobal + Print),
+        rows: &[KeyRow],
+    ) -> io::Result<Vec<&Delivery>> {
         let mut listed = Vec::new(rt.alloc());
         for row in rows {
             match self.delivery_of(row) {

@@ -16,7 +16,9 @@ const KEY_LEN: usize = 6;
 
 pub(crate) type Key = Code<KEY_LEN>;
 
-pub(crate) type Region = Code<2>;
+const REGION_LEN: usize = 2;
+
+pub(crate) type Region = Code<REGION_LEN>;
 
 #[derive(Drop)]
 pub(crate) struct Delivery {
@@ -57,16 +59,16 @@ impl Delivery {
 // The key at the end of a row.
 #[tactic(auto, using(crate::proofs::RowEnds::key_at_end))]
 pub(crate) fn key_of(row: &KeyRow) -> Option<Key>
-    ensures { (region key : List ℕ) → length key ≡ 6 → text row.now ≡ row_of region key → result ≡ Some key }
+    ensures { (region key : List ℕ) → length key ≡ KEY_LEN → text row.now ≡ row_of region key → result ≡ Some key }
 {
     let (_, key) = row.as_slice().split_last_chunk()?;
     Some(Code::from(*key))
 }
 
 // The region before it.
-#[tactic(auto, using(crate::proofs::RowEnds::front_of_row, crate::proofs::RowEnds::region_at_end))]
+#[tactic(auto, using(crate::proofs::RowEnds::front_of_row))]
 pub(crate) fn region_of(row: &KeyRow) -> Option<Region>
-    ensures { (region key : List ℕ) → length region ≡ 2 → length key ≡ 6 → text row.now ≡ row_of region key → result ≡ Some region }
+    ensures { (region key : List ℕ) → length region ≡ REGION_LEN → length key ≡ KEY_LEN → text row.now ≡ row_of region key → result ≡ Some region }
 {
     let (front, _) = row.as_slice().split_last_chunk::<KEY_LEN>()?;
     Some(Code::from(*front.last_chunk()?))

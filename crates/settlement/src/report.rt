@@ -9,10 +9,14 @@ pub(crate) fn print_region(rt: &impl Print, deliveries: &[&Delivery]) -> io::Res
     };
     println!(rt; "region {}", first.region)?;
     for delivery in deliveries {
-        println!(rt; "  {} {} {}", delivery.key, delivery.amount, delivery.supplier)?;
+        println!(rt;
+            "  {} {} {}",
+            delivery.key, delivery.amount, delivery.supplier
+        )?;
     }
-    let sum = deliveries
-        .iter()
-        .fold(Cents::ZERO, |sum, delivery| sum.saturating_add(delivery.amount));
+    let sum = deliveries.iter().fold(
+        Cents::ZERO,
+        |sum, delivery| sum.saturating_add(delivery.amount),
+    );
     println!(rt; "  deliveries {}, sum {sum}", deliveries.len())
 }
