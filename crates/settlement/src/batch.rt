@@ -1,7 +1,8 @@
 // The batch, over any two key-row files.
-ghost use Rattle.std.specs.Prelude.{◌≡◌, [], IfSome, OnErr};
-ghost use Rattle.std.specs.HashMap.{IsUnchanged};
+ghost use Rattle.std.specs.Prelude.{◌≡◌, [], Some, IfSome, OnErr, OnOk};
+ghost use Rattle.std.specs.HashMap.{IsUnchanged, get};
 ghost use Rattle.byte_strings.specs.Texts.{text};
+ghost use Rattle.storage.specs.Pairs.{placed};
 ghost use Rattle.settlement.specs.Delivery.{row_of};
 
 use crate::delivery::{Delivery, Key, key_of, region_of};
@@ -52,6 +53,10 @@ impl<T: KeyRowFile, C: KeyRowFile> Batch<T, C> {
 
     // Reads a line and keeps its delivery, with its row in both files, or leaves all as they were.
     fn take_in(&mut self, heap: Global, line: &str) -> Result<(), Flaw>
+        ensures ok { OnOk result ((delivery : _)
+            × (get ⟦<Key as PartialEq>⟧.eq self.new.deliveries delivery.key ≡ Some delivery)
+            × (T.OrderedReading.pairs self.new.files.table ≡ placed (row_of delivery.region delivery.key) [] (T.OrderedReading.pairs self.old.files.table))
+            × (C.OrderedReading.pairs self.new.files.chain ≡ placed (row_of delivery.region delivery.key) [] (C.OrderedReading.pairs self.old.files.chain))) }
         ensures table { OnErr result (T.OrderedReading.pairs self.new.files.table ≡ T.OrderedReading.pairs self.old.files.table) }
         ensures chain { OnErr result (C.OrderedReading.pairs self.new.files.chain ≡ C.OrderedReading.pairs self.old.files.chain) }
         ensures deliveries { OnErr result (IsUnchanged self.old.deliveries self.new.deliveries) }

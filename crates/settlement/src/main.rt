@@ -30,6 +30,7 @@ fn main(rt: HostRuntime) -> anyhow::Result<()> {
     let held = limit.min(MOST_ROWS);
     let mut cells = vec![in heap; KeyRow::empty(); held]?;
     let mut slots = vec![in heap; Slot::unused(); held]?;
+    // no `map_err`: it takes a `&mut` in either variant, which the borrow checker does not cover
     let Ok(table) = RowTable::new(cells.as_mut_slice(), limit) else {
         bail!(OUT_OF_RANGE);
     };
