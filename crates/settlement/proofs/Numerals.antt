@@ -7,6 +7,4 @@ use Rattle.std.proofs.Math.Nat.{pow-le-pow_right}
 pub twelve_digits_fit : (word : List ℕ) → IsNumeral 10 word → length word ≤ 12 → digits_value 10 word < 2 ^ 64
 twelve_digits_fit word numeral short =
     let ten : 0 < 10 = omega arith in
-    let most : 10 ^ length word ≤ 10 ^ 12 = pow-le-pow_right ten short in
-    let below : digits_value 10 word < 10 ^ length word = digits_value-lt 10 word numeral.1 in
-    omega arith
+    omega (arith, digits_value-lt 10 word numeral.1, pow-le-pow_right ten short)

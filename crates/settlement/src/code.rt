@@ -1,4 +1,4 @@
-// A code of N ASCII characters, as a key and a region are.
+// A code of N bytes, as a key and a region are, printed a character a byte.
 ghost use Rattle.std.specs.Prelude.{◌≡◌, ℕ, List, length, IfSome};
 
 use std::fmt;

@@ -1,4 +1,4 @@
-// Two key-row files that hold the same rows.
+// Two key-row files that take the same rows.
 ghost use Rattle.std.specs.Prelude.{◌≡◌, []};
 ghost use Rattle.byte_strings.specs.Texts.{text};
 ghost use Rattle.storage.specs.Checks.{leaves};
@@ -13,7 +13,8 @@ pub(crate) struct BothFiles<T: KeyRowFile, C: KeyRowFile> {
 }
 
 impl<T: KeyRowFile, C: KeyRowFile> BothFiles<T, C> {
-    // The row goes into both files, or both are left as they were.
+    // The row goes into both files, or both are left as they were: what the table took in it gives back, which is never
+    // refused.
     #[tactic(auto, using(storage::proofs::OwnPair::dropped_again))]
     pub(crate) fn add(&mut self, row: &KeyRow) -> Result<(), RowFault>
         ensures table { T.OrderedReading.pairs self.new.table ≡ leaves result (placed (text row.now) [] (T.OrderedReading.pairs self.old.table)) (T.OrderedReading.pairs self.old.table) }
