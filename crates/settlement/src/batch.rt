@@ -1,93 +1,112 @@
 // The batch, over any two key-row files.
-ghost use Rattle.std.specs.Prelude.{◌≡◌, [], OnErr};
+ghost use Rattle.std.specs.Prelude.{◌≡◌, [], Some, IfSome, OnErr, OnOk};
+ghost use Rattle.std.specs.HashMap.{IsUnchanged, get};
 ghost use Rattle.byte_strings.specs.Texts.{text};
-ghost use Rattle.storage.specs.Checks.{leaves};
 ghost use Rattle.storage.specs.Pairs.{placed};
+ghost use Rattle.settlement.specs.Delivery.{row_of};
 
-use crate::delivery::{Delivery, read_delivery};
+use crate::delivery::{Delivery, Key, key_of, region_of};
+use crate::files::BothFiles;
 use crate::flaw::Flaw;
-use crate::report::print_regions;
+use crate::report::print_region;
 use row_listing::list_rows;
 use std::alloc::Global;
-use std::io::{BufRead, BufReader};
+use std::collections::HashMap;
+use std::collections::hash_map::Entry;
+use std::io;
+use std::io::BufRead;
 use storage::{KeyRow, KeyRowFile};
 
-pub(crate) fn settle<T: KeyRowFile + Drop, C: KeyRowFile + Drop>(
-    rt: &HostRuntime,
-    mut table: T,
-    mut chain: C,
-) -> anyhow::Result<()> {
-    let heap = rt.alloc();
-    let mut deliveries = Vec::new(heap);
-    let mut number = 0usize;
-    for line in BufReader::new(heap, rt.stdin())?.lines(heap) {
-        number = number.saturating_add(1);
-        if let Err(flaw) = take_in(
-            heap,
-            line?.as_str(),
-            &mut deliveries,
-            &mut table,
-            &mut chain,
-        ) {
-            println!(rt; "line {number}: {flaw}")?;
+// The deliveries taken in, and the files with their rows.
+#[derive(Drop)]
+pub(crate) struct Batch<T: KeyRowFile, C: KeyRowFile> {
+    deliveries: HashMap<Key, Delivery>,
+    files: BothFiles<T, C>,
+}
+
+impl<T: KeyRowFile, C: KeyRowFile> Batch<T, C> {
+    pub(crate) fn new(heap: Global, table: T, chain: C) -> Batch<T, C>
+        ensures deliveries { result.deliveries.entries ≡ [] }
+        ensures table { result.files.table ≡ table }
+        ensures chain { result.files.chain ≡ chain }
+    {
+        Batch {
+            deliveries: HashMap::new(heap),
+            files: BothFiles { table, chain },
         }
     }
-    let by_table = list_rows(heap, &table)?;
-    let by_chain = list_rows(heap, &chain)?;
-    print_regions(rt, deliveries.as_slice(), by_table.as_slice())?;
-    if by_table.as_slice() == by_chain.as_slice() {
-        println!(rt; "both key-row files gave the same lists")?;
-    } else {
-        println!(rt; "THE KEY-ROW FILES DIFFER")?;
-    }
-    Ok(())
-}
 
-// Reads a line and keeps its delivery, with its row in both files, or leaves all three as they were.
-fn take_in<T: KeyRowFile, C: KeyRowFile>(
-    heap: Global,
-    line: &str,
-    deliveries: &mut Vec<Delivery>,
-    table: &mut T,
-    chain: &mut C,
-) -> Result<(), Flaw>
-    ensures table { OnErr result (T.OrderedReading.pairs table.new ≡ T.OrderedReading.pairs table.old) }
-    ensures chain { OnErr result (C.OrderedReading.pairs chain.new ≡ C.OrderedReading.pairs chain.old) }
-    ensures deliveries { OnErr result (deliveries.new.items ≡ deliveries.old.items) }
-{
-    let delivery = read_delivery(heap, line)?;
-    if is_given(deliveries.as_slice(), delivery.key.as_bytes()) {
-        return Err(Flaw::GivenTwice);
-    }
-    let row = delivery.row();
-    deliveries.reserve(1)?;
-    add_to_both(table, chain, &row)?;
-    deliveries.push_reserved(delivery);
-    Ok(())
-}
-
-// The row goes into both files, or both are left as they were.
-fn add_to_both<T: KeyRowFile, C: KeyRowFile>(
-    table: &mut T,
-    chain: &mut C,
-    row: &KeyRow,
-) -> Result<(), Flaw>
-    ensures table { T.OrderedReading.pairs table.new ≡ leaves result (placed (text row.now) [] (T.OrderedReading.pairs table.old)) (T.OrderedReading.pairs table.old) }
-    ensures chain { C.OrderedReading.pairs chain.new ≡ leaves result (placed (text row.now) [] (C.OrderedReading.pairs chain.old)) (C.OrderedReading.pairs chain.old) }
-{
-    table.add(row.as_slice())?;
-    if let Err(fault) = chain.add(row.as_slice()) {
-        table.drop_row(row.as_slice())?;
-        return Err(Flaw::Row(fault));
-    }
-    Ok(())
-}
-
-fn is_given(deliveries: &[Delivery], key: &[u8]) -> bool {
-    for delivery in deliveries {
-        if delivery.key.as_bytes() == key {
-            return true;
+    // Takes in a delivery a line, and says why a line is passed over.
+    pub(crate) fn take_in_lines(
+        &mut self,
+        rt: &(impl AllocGlobal + Print),
+        input: impl BufRead + Drop,
+    ) -> anyhow::Result<()> {
+        let heap = rt.alloc();
+        for (i, line) in input.lines(heap).enumerate() {
+            if let Err(flaw) = self.take_in(heap, line?.as_str()) {
+                println!(rt; "line {}: {flaw}", i + 1)?;
+            }
         }
+        Ok(())
     }
-    false
+
+    // Reads a line and keeps its delivery, with its row in both files, or leaves all as they were.
+    fn take_in(&mut self, heap: Global, line: &str) -> Result<(), Flaw>
+        ensures ok { OnOk result ((delivery : _)
+            × (get ⟦<Key as PartialEq>⟧.eq self.new.deliveries delivery.key ≡ Some delivery)
+            × (T.OrderedReading.pairs self.new.files.table ≡ placed (row_of delivery.region delivery.key) [] (T.OrderedReading.pairs self.old.files.table))
+            × (C.OrderedReading.pairs self.new.files.chain ≡ placed (row_of delivery.region delivery.key) [] (C.OrderedReading.pairs self.old.files.chain))) }
+        ensures table { OnErr result (T.OrderedReading.pairs self.new.files.table ≡ T.OrderedReading.pairs self.old.files.table) }
+        ensures chain { OnErr result (C.OrderedReading.pairs self.new.files.chain ≡ C.OrderedReading.pairs self.old.files.chain) }
+        ensures deliveries { OnErr result (IsUnchanged self.old.deliveries self.new.deliveries) }
+    {
+        let delivery = Delivery::read(heap, line)?;
+        let Entry::Vacant(place) = self.deliveries.entry(delivery.key)? else {
+            return Err(Flaw::GivenTwice);
+        };
+        self.files.add(&delivery.row())?;
+        place.insert(delivery);
+        Ok(())
+    }
+
+    // The list and the sum of each region by the table's rows, and whether the chain gives the same rows.
+    pub(crate) fn print(&self, rt: &(impl AllocGlobal + Print)) -> anyhow::Result<()> {
+        let heap = rt.alloc();
+        let by_table = list_rows(heap, &self.files.table)?;
+        let by_chain = list_rows(heap, &self.files.chain)?;
+        for rows in by_table.chunk_by(|a, b| region_of(a) == region_of(b)) {
+            print_region(rt, self.listed(rt, rows)?.as_slice())?;
+        }
+        if by_table == by_chain {
+            println!(rt; "both key-row files gave the same lists")?;
+        } else {
+            println!(rt; "THE KEY-ROW FILES DIFFER")?;
+        }
+        Ok(())
+    }
+
+    // The deliveries in the order of their rows.
+    fn listed(
+        &self,
+        rt: &(impl AllocGlobal + Print),
+        rows: &[KeyRow],
+    ) -> io::Result<Vec<&Delivery>> {
+        let mut listed = Vec::new(rt.alloc());
+        for row in rows {
+            match self.delivery_of(row) {
+                Some(delivery) => listed.push(delivery)?,
+                None => println!(rt; "A ROW HAS NO DELIVERY")?,
+            }
+        }
+        Ok(listed)
+    }
+
+    fn delivery_of(&self, row: &KeyRow) -> Option<&Delivery>
+        ensures { IfSome result (λ delivery. row_of delivery.now.region delivery.now.key ≡ text row.now) }
+    {
+        self.deliveries
+            .get(&key_of(row)?)
+            .filter(|delivery| delivery.row() == *row)
+    }
 }

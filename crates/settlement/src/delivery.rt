@@ -1,94 +1,75 @@
 // A delivery, as a line gives it.
-ghost use Rattle.std.specs.Prelude.{◌≡◌, ◌++◌, take, string_bytes, codes};
+ghost use Rattle.std.specs.Prelude.{◌≡◌, ℕ, List, length, Some};
 ghost use Rattle.byte_strings.specs.Texts.{text};
+ghost use Rattle.settlement.specs.Delivery.{row_of};
 
+use crate::code::Code;
 use crate::flaw::Flaw;
 use crate::money::Cents;
 use std::alloc::Global;
 use storage::KeyRow;
 
 // The specifier of the alternate key 'region'.
-const REGION_KEY: [u8; 2] = [b'R', b'G'];
+const REGION_KEY: [u8; 2] = *b"RG";
 
 const KEY_LEN: usize = 6;
 
+pub(crate) type Key = Code<KEY_LEN>;
+
 const REGION_LEN: usize = 2;
 
-const MOST_DIGITS: usize = 12;
+pub(crate) type Region = Code<REGION_LEN>;
 
 #[derive(Drop)]
 pub(crate) struct Delivery {
-    pub(crate) key: String,
-    pub(crate) region: String,
+    pub(crate) key: Key,
+    pub(crate) region: Region,
     pub(crate) amount: Cents,
     pub(crate) supplier: String,
 }
 
 impl Delivery {
+    // Reads `KEY REGION CENTS SUPPLIER`, one blank apart; the supplier is the rest of the line.
+    pub(crate) fn read(heap: Global, line: &str) -> Result<Delivery, Flaw> {
+        let (key, rest) = line.split_once(' ').ok_or(Flaw::Words)?;
+        let (region, rest) = rest.split_once(' ').ok_or(Flaw::Words)?;
+        let (cents, supplier) = rest.split_once(' ').ok_or(Flaw::Words)?;
+        let key = Key::read(key, u8::is_ascii_alphanumeric).ok_or(Flaw::Key)?;
+        let region = Region::read(region, u8::is_ascii_uppercase).ok_or(Flaw::Region)?;
+        if supplier.trim().is_empty() {
+            return Err(Flaw::Supplier);
+        }
+        Ok(Delivery {
+            key,
+            region,
+            amount: cents.parse()?,
+            supplier: String::from_str(heap, supplier)?,
+        })
+    }
+
     // The row of this delivery in the key-row file: specifier, region, key.
     pub(crate) fn row(&self) -> KeyRow
-        ensures { text result ≡ take 66 (take 66 (codes "RG" ++ string_bytes self.now.region) ++ string_bytes self.now.key) }
+        ensures { text result ≡ row_of self.now.region self.now.key }
     {
         let front = KeyRow::joined(&REGION_KEY, self.region.as_bytes());
         KeyRow::joined(front.as_slice(), self.key.as_bytes())
     }
 }
 
-// Reads `KEY REGION CENTS SUPPLIER`, one blank apart; the supplier is the rest of the line.
-pub(crate) fn read_delivery(heap: Global, line: &str) -> Result<Delivery, Flaw> {
-    let (key, rest) = line.split_once(' ').ok_or(Flaw::Words)?;
-    let (region, rest) = rest.split_once(' ').ok_or(Flaw::Words)?;
-    let (cents, supplier) = rest.split_once(' ').ok_or(Flaw::Words)?;
-    check_words(key, region, supplier)?;
-    Ok(Delivery {
-        key: String::from_str(heap, key)?,
-        region: String::from_str(heap, region)?,
-        amount: read_cents(cents)?,
-        supplier: String::from_str(heap, supplier)?,
-    })
+// The key at the end of a row.
+#[tactic(auto, using(crate::proofs::RowEnds::key_at_end))]
+pub(crate) fn key_of(row: &KeyRow) -> Option<Key>
+    ensures { (region key : List ℕ) → length key ≡ KEY_LEN → text row.now ≡ row_of region key → result ≡ Some key }
+{
+    let (_, key) = row.as_slice().split_last_chunk()?;
+    Some(Code::from(*key))
 }
 
-fn check_words(key: &str, region: &str, supplier: &str) -> Result<(), Flaw> {
-    if key.len() != KEY_LEN || !all_alphanumeric(key.as_bytes()) {
-        return Err(Flaw::Key);
-    }
-    if region.len() != REGION_LEN || !all_capital(region.as_bytes()) {
-        return Err(Flaw::Region);
-    }
-    if supplier.trim().is_empty() {
-        return Err(Flaw::Supplier);
-    }
-    Ok(())
-}
-
-fn all_alphanumeric(word: &[u8]) -> bool {
-    for b in word {
-        if !b.is_ascii_alphanumeric() {
-            return false;
-        }
-    }
-    true
-}
-
-fn all_capital(word: &[u8]) -> bool {
-    for b in word {
-        if !b.is_ascii_uppercase() {
-            return false;
-        }
-    }
-    true
-}
-
-fn read_cents(word: &str) -> Result<Cents, Flaw> {
-    if word.is_empty() || word.len() > MOST_DIGITS {
-        return Err(Flaw::Cents);
-    }
-    let mut cents = 0u64;
-    for b in word.bytes() {
-        if !b.is_ascii_digit() {
-            return Err(Flaw::Cents);
-        }
-        cents = cents.saturating_mul(10).saturating_add(u64::from(b - b'0'));
-    }
-    Ok(Cents(cents))
+// The region before it.
+#[tactic(auto, using(crate::proofs::RowEnds::front_of_row))]
+pub(crate) fn region_of(row: &KeyRow) -> Option<Region>
+    ensures { (region key : List ℕ) → length region ≡ REGION_LEN → length key ≡ KEY_LEN → text row.now ≡ row_of region key → result ≡ Some region }
+{
+    let (front, _) = row.as_slice().split_last_chunk::<KEY_LEN>()?;
+    Some(Code::from(*front.last_chunk()?))
 }
