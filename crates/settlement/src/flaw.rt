@@ -18,17 +18,8 @@ pub(crate) enum Flaw {
     Supplier,
     #[error("the key is given twice")]
     GivenTwice,
-    #[error("{} ({})", reason(*.0), .0.number())]
+    #[error("{} ({})", .0, .0.number())]
     Row(#[from] RowFault),
     #[error("no memory")]
     Memory(#[from(alloc)] AllocError),
-}
-
-fn reason(fault: RowFault) -> &'static str {
-    match fault {
-        RowFault::FileFull => "the key-row file is full",
-        RowFault::AlreadyExists => "the key row is there already",
-        RowFault::NotFound => "the key row is not there",
-        RowFault::IllegalCount => "the key row has an illegal length",
-    }
 }
