@@ -1,5 +1,5 @@
 -- The number of pairs and the total of their bytes after a pair was put in, changed or taken out. Assumes nothing.
-use Rattle.std.proofs.Common.{◌≡◌, ℕ, suc, ◌+◌, ◌-◌, ◌≤◌, true, T, List, [], ◌∷◌, length, Some, None, Option, refl, subst, arith}
+use Rattle.std.proofs.Common.{◌≡◌, ℕ, suc, ◌+◌, ◌-◌, ◌≤◌, true, T, List, [], ◌∷◌, length, Some, Option, refl, subst, arith}
 use Rattle.std.specs.Option.{option_map}
 use Rattle.ordered_table.specs.Table.{is_strictly_sorted_by}
 use Rattle.byte_strings.specs.Bytes.{Bytes, order, same}
@@ -10,8 +10,7 @@ use Rattle.storage.proofs.Places.{without-none}
 
 -- a length known means a record there
 pub of_length : (o : Option Bytes) (n : ℕ) → option_map length o ≡ Some n → (old : Bytes) × (o ≡ Some old) × (length old ≡ n)
-of_length None n h = let z : ◌≡◌ {A = ℕ} 0 1 = cc in absurd (omega arith)
-of_length (Some old) n h = (old, refl, cc)
+of_length o n h = grind arith
 
 pub rest_ascending : {A : Type 0} (p : Bytes × A) (ps : List (Bytes × A)) → Ascending (keys (p ∷ ps)) → Ascending (keys ps)
 rest_ascending p ps up = right (beyond total_order p.0 (keys ps)) (is_strictly_sorted_by order (keys ps)) up
@@ -37,7 +36,7 @@ module _ {A : Type 0} (κ : Bytes) where
 
   pub length_without : (old : A) (ps : List (Bytes × A)) → Ascending (keys ps) → under κ ps ≡ Some old → length (without κ ps) + 1 ≡ length ps
   unfolding under without
-  length_without old [] up h = let z : ◌≡◌ {A = ℕ} 0 1 = cc in absurd (omega arith)
+  length_without old [] up h = cc
   length_without old (p ∷ ps) up h =
       let one = alone p ps up in
       let k : under κ ps ≡ Some old → length (without κ ps) + 1 ≡ length ps = length_without old ps (rest_ascending p ps up) in
@@ -54,14 +53,14 @@ module _ (κ : Bytes) where
   -- no record is longer than all of them together
   pub total_holds : (old : Bytes) (ps : List (Bytes × Bytes)) → under κ ps ≡ Some old → length old ≤ total ps
   unfolding under total
-  total_holds old [] h = let z : ◌≡◌ {A = ℕ} 0 1 = cc in absurd (omega arith)
+  total_holds old [] h = cc
   total_holds old (p ∷ ps) h =
       let k : under κ ps ≡ Some old → length old ≤ total ps = total_holds old ps in
       grind arith
 
   pub total-replaced : (r old : Bytes) (ps : List (Bytes × Bytes)) → under κ ps ≡ Some old → total (replaced κ r ps) + length old ≡ total ps + length r
   unfolding under replaced total
-  total-replaced r old [] h = let z : ◌≡◌ {A = ℕ} 0 1 = cc in absurd (omega arith)
+  total-replaced r old [] h = cc
   total-replaced r old (p ∷ ps) h =
       let k : under κ ps ≡ Some old → total (replaced κ r ps) + length old ≡ total ps + length r = total-replaced r old ps in
       grind arith
@@ -75,7 +74,7 @@ module _ (κ : Bytes) where
 
   pub total_without : (old : Bytes) (ps : List (Bytes × Bytes)) → Ascending (keys ps) → under κ ps ≡ Some old → total (without κ ps) + length old ≡ total ps
   unfolding under without total
-  total_without old [] up h = let z : ◌≡◌ {A = ℕ} 0 1 = cc in absurd (omega arith)
+  total_without old [] up h = cc
   total_without old (p ∷ ps) up h =
       let one = alone κ p ps up in
       let k : under κ ps ≡ Some old → total (without κ ps) + length old ≡ total ps = total_without old ps (rest_ascending p ps up) in
