@@ -1,8 +1,8 @@
 -- The order of byte strings is total, and what its tests say. Assumes nothing.
-use Rattle.std.proofs.Common.{◌≡◌, Bool, true, false, ◌⊎◌, Ordering, Less, Equal, Greater, sym, refl, ap, ◌∙◌, inl, inr, true≢false, arith}
+use Rattle.std.proofs.Common.{◌≡◌, true, false, ◌⊎◌, Less, Equal, sym, ap, ◌∙◌, arith}
 use Rattle.std.specs.Cmp.{IsTotalOrder, tied_itself}
 use Rattle.std.specs.Cmp.Lexicographic.{nat_list_cmp_total, nat_list_eq_equiv, texts_ties}
-use Rattle.std.specs.Ordering.{is_lt, is_gt, is_eq, ordering_reverse}
+use Rattle.std.specs.Ordering.{is_lt, is_eq}
 use Rattle.std.proofs.lemmas.Slice.Eq.{bytes_eq-Decides}
 use Rattle.byte_strings.specs.Bytes.{Bytes, order, below, same}
 
@@ -36,14 +36,9 @@ same-flip x y h = nat_list_eq_equiv.symm y x ∙ h
 
 -- ---- `below`
 
-less : (o : Ordering) → is_lt o ≡ true → o ≡ Less
-less Less h = refl
-less Equal h = absurd (true≢false (sym h))
-less Greater h = absurd (true≢false (sym h))
-
 pub below_less : (x y : Bytes) → below x y ≡ true → order x y ≡ Less
 unfolding below
-below_less x y h = less (order x y) h
+below_less x y h = grind arith
 
 pub less_below : (x y : Bytes) → order x y ≡ Less → below x y ≡ true
 unfolding below
@@ -59,16 +54,11 @@ below_irrefl x = ap is_lt (order-itself x)
 pub below-asym : (x y : Bytes) → below y x ≡ true → below x y ≡ false
 below-asym x y h = grind (arith, below-trans, below_irrefl)
 
-neither : (o r : Ordering) → o ≡ ordering_reverse r → is_lt o ≡ false → is_lt r ≡ false → o ≡ Equal
-neither Less r e h k = absurd (true≢false h)
-neither Equal r e h k = refl
-neither Greater Less e h k = absurd (true≢false k)
-neither Greater Equal e h k = e
-neither Greater Greater e h k = absurd (true≢false (ap is_gt e))
-
 pub below_neither : (x y : Bytes) → below x y ≡ false → below y x ≡ false → x ≡ y
 unfolding below
-below_neither x y h k = equal_is x y (neither (order x y) (order y x) (total_order.antisymm x y) h k)
+below_neither x y h k =
+    let flipped = total_order.antisymm x y in
+    grind (arith, equal_is)
 
 -- above what is not below
 pub below-after : (x y z : Bytes) → below y x ≡ false → below y z ≡ true → below x z ≡ true
@@ -78,18 +68,10 @@ pub not_below_trans : (x y z : Bytes) → below y x ≡ false → below x z ≡ 
 not_below_trans x y z h k = grind (arith, below-after)
 
 pub not_same : (x y : Bytes) → (x ≡ y → ⊥) → same x y ≡ false
-not_same x y n = go (same x y) refl
-  where
-    go : (b : Bool) → same x y ≡ b → same x y ≡ false
-    go true e = absurd (n (same_is x y e))
-    go false e = e
+not_same x y n = grind (arith, same_is)
 
 pub same_cases : (x y : Bytes) → (x ≡ y) ⊎ (same x y ≡ false)
-same_cases x y = go (same x y) refl
-  where
-    go : (b : Bool) → same x y ≡ b → (x ≡ y) ⊎ (same x y ≡ false)
-    go true e = inl (same_is x y e)
-    go false e = inr e
+same_cases x y = grind (arith, same_is)
 
 pub below_not_same : (x y : Bytes) → below x y ≡ true → same x y ≡ false
-below_not_same x y h = not_same x y (λ e. true≢false (sym h ∙ (ap (λ z. below z y) e ∙ below_irrefl y)))
+below_not_same x y h = grind (arith, same_is x y, below_irrefl y)

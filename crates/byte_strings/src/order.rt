@@ -8,6 +8,7 @@ use std::cmp::Ordering;
 
 // Which of two byte strings comes first: the first byte that differs decides, unsigned, and a proper prefix comes
 // before what it begins. The order is total, and equal means the same bytes.
+#[tactic(auto, using(crate::proofs::TotalOrder::total_order, crate::proofs::TotalOrder::equal_is), unfolding(crate::specs::Bytes::order))]
 pub fn compare(x: &[u8], y: &[u8]) -> Ordering
     ensures value { result ≡ order x.now y.now }
     ensures total { IsTotalOrder order }

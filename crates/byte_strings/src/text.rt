@@ -52,6 +52,7 @@ impl<const N: usize> PartialEq for ByteString<N> {
 
     ghost laws = { partial_equiv_from_equiv string_equality };
 
+    #[tactic(auto, using(crate::proofs::TotalOrder::same_is, crate::proofs::TotalOrder::is_same), unfolding(crate::specs::Bytes::same))]
     fn eq(&self, other: &ByteString<N>) -> bool
         ensures value { result ≡ same (text self.now) (text other.now) }
         ensures equal { IsTrue result ↔ (text self.now ≡ text other.now) }

@@ -1,6 +1,5 @@
 -- Rows as pairs without bytes, and the refusals of a key-row file, in their order.
 use Rattle.std.specs.Prelude.{◌≡◌, ℕ, Bool, not, ◌||◌, List, [], ◌∷◌, ◌++◌, map, length, is_some, ◌==◌, nat_le, nat_lt, refl}
-use Rattle.std.proofs.Common.{sym, ap, subst}
 use Rattle.byte_strings.specs.Bytes.{Bytes}
 use Rattle.storage.specs.declared.faults.RowFault.{RowFault}
 use Rattle.storage.specs.declared.faults.RowFault.TheVariants.{AlreadyExists, NotFound, IllegalCount, FileFull}
@@ -11,10 +10,10 @@ bare rows = map (λ row. (row, [])) rows
 
 pub keys_bare : (rows : List Bytes) → keys (bare rows) ≡ rows
 keys_bare [] = refl
-keys_bare (row ∷ rows) = ap (λ ks. row ∷ ks) (keys_bare rows)
+keys_bare (row ∷ rows) = λ t. row ∷ keys_bare rows t
 
 pub bare_ascending : (rows : List Bytes) → Ascending rows → Ascending (keys (bare rows))
-bare_ascending rows up = subst Ascending (sym (keys_bare rows)) up
+bare_ascending rows up = rw (keys_bare rows) up
 
 -- a row has 1 to 66 bytes
 abbrev pub row_checks : Bytes → List (Bool × RowFault)

@@ -44,6 +44,7 @@ impl PrimaryShape {
     }
 
     // What replacing answers in every file of that many bytes, by the length of the record under the key, if any.
+    #[tactic(auto, using(crate::proofs::Figures::total_changed))]
     pub fn check_replace(
         self,
         byte_total: usize,
@@ -91,6 +92,7 @@ impl FileKind {
     }
 
     // Whether the key is not the one that the next record takes, where records are numbered in their order.
+    #[tactic(auto, unfolding(byte_strings::specs::Bytes::same))]
     fn is_other_than_next(self, count: usize, key: &[u8]) -> bool
         ensures { result ≡ (is_entry_sequenced self && not (same key.now (number_key count))) }
     {

@@ -19,6 +19,7 @@ pub fn is_present<R: OrderedReading>(file: &R, key: &[u8]) -> bool
 
 // Whether a search from the string reaches the key: at or above the string, or strictly above it, as the mark says.
 // Finding answers the lowest key of a file that is reached.
+#[tactic(auto, using(crate::proofs::Lowest::finds_lowest), unfolding(byte_strings::specs::Bytes::below))]
 pub fn reaches(mark: PositionMark, from: &[u8], key: &[u8]) -> bool
     ensures value { result ≡ reached mark from.now key.now }
     ensures lowest { FindsLowest }

@@ -3,7 +3,4 @@ use Rattle.std.proofs.lemmas.List.{same_lists, places}
 use Rattle.byte_strings.proofs.string.ByteString.joined.Goals as goal
 
 pub returns : goal.returns
-returns g c =
-    let n = c.fill_front-n.ensures in
-    let m = c.fill_front-m.ensures in
-    same_lists _ _ (grind (arith, places)) (λ k d h. grind (arith, places))
+returns g c = same_lists _ _ (grind (arith, places)) (λ k d h. grind (arith, places))
