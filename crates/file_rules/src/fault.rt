@@ -37,6 +37,7 @@ pub enum CallFault {
 }
 
 impl CallFault {
+    // Variants that carry a fault have no number of their own, so it is not their discriminant.
     pub fn number(self) -> u16
         ensures { result ≡ number_of self }
     {

@@ -23,7 +23,7 @@ pub enum PositioningMode {
     Exact,
 }
 
-// A code that names no mode.
+// A code that names no mode. Each mode has a table of codes of its own; a shared function would have to be handed it.
 #[derive(Clone, Copy, PartialEq, Eq, Debug)]
 pub struct UnknownCode(pub usize);
 

@@ -11,6 +11,9 @@ mod table;
 pub use fault::InsertFault;
 pub use table::OrderedTable;
 
+// The three functions take any slice and how much of it is in use, as a caller may have them apart; an `OrderedTable` has
+// both in one, and that its entries ascend.
+
 // Where the entry equal to the probe stands, or where one would go in. The search is binary. A count of used cells
 // beyond the slice means all of it.
 pub fn search<E: Ord>(cells: &[E], used: usize, probe: &E) -> Result<usize, usize>

@@ -9,6 +9,7 @@ ghost use Rattle.ordered_table.specs.Table.{Ascending, searched, insertion, remo
 use crate::fault::InsertFault;
 use crate::{insert, remove, search};
 
+// Lent cells with a count of those in use, and not a `Vec`: no call on a file takes heap.
 #[derive(Drop)]
 pub struct OrderedTable<'a, E: Ord> {
     cells: &'a mut [E],

@@ -1,4 +1,4 @@
-// The chain as a key-row file.
+// The chain as a key-row file; its reading is a line each over its own walk, as in every file of rows.
 ghost use Rattle.std.specs.Prelude.{length};
 ghost use Rattle.storage.specs.Rows.{bare, bare_ascending};
 ghost use Rattle.row_chain.specs.Chains.{rows};

@@ -1,4 +1,4 @@
-// A table of rows is read in the order of its rows.
+// A table of rows is read in the order of its rows: a line each over its own search, as in every file of rows.
 ghost use Rattle.storage.specs.Rows.{bare, bare_ascending};
 ghost use Rattle.row_table.specs.Tables.{rows, rows_ascend};
 

@@ -16,6 +16,7 @@ const ROWS: usize = 24;
 
 fn main(rt: HostRuntime) -> anyhow::Result<()> {
     let heap = rt.alloc();
+    // as settlement makes them; a function that made both files would hand out memory of its own
     let mut cells = vec![in heap; KeyRow::empty(); ROWS]?;
     let mut slots = vec![in heap; Slot::unused(); ROWS]?;
     // no map_err: its closure would take the memory back, a `&mut` slice, which the borrow checker does not cover

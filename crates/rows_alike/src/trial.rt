@@ -37,6 +37,7 @@ impl<T: KeyRowFile, C: KeyRowFile> Trial<T, C> {
         }
     }
 
+    // A draw chooses the call. Its four kinds take and answer different things, so closures would be no plainer.
     fn step(&mut self) {
         let row = draw_row(&mut self.dice);
         let row = row.as_slice();

@@ -33,7 +33,7 @@ impl Absent {
     pub fn number(self) -> u16
         ensures { result ≡ absent_number }
     {
-        11
+        PrimaryFault::NotFound.number()
     }
 }
 
