@@ -1,8 +1,10 @@
 // Pseudo-random numbers for trials, the same in every run.
 #![tactic(auto)]
 
-ghost use Rattle.std.specs.Prelude.{◌≡◌};
+ghost use Rattle.std.specs.Prelude.{◌≡◌, ℕ};
 ghost use Rattle.dice.specs.Draws.{next_state, drawn};
+
+use std::marker::Model;
 
 // A linear congruential generator of 64 bits.
 #[derive(Drop)]
@@ -10,17 +12,24 @@ pub struct Dice {
     state: u64,
 }
 
+// Clauses see the state.
+impl Model for Dice {
+    ghost Value = { ℕ };
+
+    ghost view = { λ dice. dice.state };
+}
+
 impl Dice {
     pub fn new(seed: u64) -> Dice
-        ensures { result.state ≡ seed }
+        ensures { result ≡ seed }
     {
         Dice { state: seed }
     }
 
     // One of the numbers below `sides`, or 0 where there are none.
     pub fn throw(&mut self, sides: u64) -> u64
-        ensures value { result ≡ drawn (next_state self.old.state) sides }
-        ensures after { self.new.state ≡ next_state self.old.state }
+        ensures value { result ≡ drawn (next_state self.old) sides }
+        ensures after { self.new ≡ next_state self.old }
     {
         self.state = self
             .state

@@ -28,6 +28,8 @@ pub struct RowChain<'a> {
 }
 
 impl<'a> RowChain<'a> {
+    ghost use Rattle.row_chain.specs.Files.{held, limit_of};
+
     // A file with no row and that row limit. A limit outside 1 to 16,384, or above what the memory holds, is refused and
     // the memory handed back.
     pub fn new(
@@ -35,15 +37,15 @@ impl<'a> RowChain<'a> {
         limit: usize,
     ) -> Result<RowChain<'a>, Refused<&'a mut [Slot], RowFault>>
         ensures value { verdict result ≡ settled (first (limit_checks limit (length memory.old))) }
-        ensures cases { MatchResult result (λ made. (rows made.linked ≡ []) × (length made.linked.slots.now ≡ limit)) (λ refused. refused.given.now ≡ memory.old) }
+        ensures cases { MatchResult result (λ made. (held made ≡ []) × (limit_of made ≡ limit)) (λ refused. refused.given.now ≡ memory.old) }
     {
         Ok(RowChain::over(RowSpace::new(memory, limit)?))
     }
 
     // A file with no row, which may come to hold as many as the space has slots.
     fn over(space: RowSpace<'a, Slot>) -> RowChain<'a>
-        ensures rows { rows result.linked ≡ [] }
-        ensures limit { length result.linked.slots.now ≡ length space.entry.cells.now }
+        ensures rows { held result ≡ [] }
+        ensures limit { limit_of result ≡ length space.entry.cells.now }
     {
         let slots = space.into_cells();
         // all slots make one free chain

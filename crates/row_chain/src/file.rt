@@ -1,7 +1,6 @@
 // The chain as a key-row file; its reading is a line each over its own walk, as in every file of rows.
-ghost use Rattle.std.specs.Prelude.{length};
 ghost use Rattle.storage.specs.Rows.{bare, bare_ascending};
-ghost use Rattle.row_chain.specs.Chains.{rows};
+ghost use Rattle.row_chain.specs.Files.{held, limit_of};
 
 use crate::chain::RowChain;
 use storage::{
@@ -9,9 +8,9 @@ use storage::{
 };
 
 impl OrderedReading for RowChain<'_> {
-    ghost pairs = { λ s. bare (rows s.linked) };
+    ghost pairs = { λ s. bare (held s) };
 
-    ghost ascending = { λ s. bare_ascending (rows s.linked) s.ascending };
+    ghost ascending = { λ s. bare_ascending (held s) s.ascending };
 
     fn count(&self) -> usize {
         self.linked.count
@@ -32,7 +31,7 @@ impl OrderedReading for RowChain<'_> {
 }
 
 impl KeyRowFile for RowChain<'_> {
-    ghost limit = { λ s. length s.linked.slots.now };
+    ghost limit = { λ s. limit_of s };
 
     fn limit(&self) -> usize {
         self.linked.slots.len()
