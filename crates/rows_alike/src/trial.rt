@@ -86,6 +86,7 @@ impl<T: KeyRowFile, C: KeyRowFile> Trial<T, C> {
         self.tally.note_reading(there);
     }
 
+    // It ends in words of its own, and so not by one function with settlement's batch.
     pub(crate) fn print(&self, rt: &(impl Print + AllocGlobal)) -> anyhow::Result<()> {
         println!(rt; "{}", self.tally)?;
         let heap = rt.alloc();
