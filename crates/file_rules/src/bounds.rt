@@ -28,46 +28,60 @@ impl FileDescription<'_> {
     fn is_within_bounds(&self) -> bool
         ensures { result ≡ within_bounds (described self.now) }
     {
-        let longest = self.max_record_len;
-        (1..=LONGEST_RECORD).contains(&longest)
-            && self.organization.fits(longest)
-            && table_fits(self.alternate_keys, longest)
+        (1..=LONGEST_RECORD).contains(&self.max_record_len)
+            && self.key_fits()
+            && self.table_fits()
             && (1..=MOST_RECORDS).contains(&self.record_limit)
             && (1..=MOST_BYTES).contains(&self.byte_limit)
             && (1..=MOST_ROWS).contains(&self.row_limit)
     }
-}
 
-impl KeyField {
-    // 1 to 32 bytes that end within the longest record.
-    fn fits(self, longest: usize) -> bool
-        ensures { result ≡ field_fits longest self }
+    fn key_fits(&self) -> bool
+        ensures { result ≡ key_fits self.now.max_record_len self.now.organization }
     {
-        (1..=LONGEST_KEY).contains(&self.len)
-            && self.len <= longest
-            && self.offset <= longest - self.len
-    }
-}
-
-impl Organization {
-    fn fits(self, longest: usize) -> bool
-        ensures { result ≡ key_fits longest self }
-    {
-        match self {
+        match self.organization {
             Organization::Relative | Organization::EntrySequenced => true,
-            Organization::KeySequenced(field) => field.fits(longest),
+            Organization::KeySequenced(field) => self.field_fits(field),
         }
+    }
+
+    // At most four keys, each within its bounds, and no two with one specifier.
+    fn table_fits(&self) -> bool
+        ensures { result ≡ table_fits self.now.max_record_len self.now.alternate_keys.now }
+    {
+        self.alternate_keys.len() <= MOST_ALTERNATE_KEYS
+            && self.alternates_fit()
+            && specifiers_differ(self.alternate_keys)
+    }
+
+    fn alternates_fit(&self) -> bool
+        ensures { result ≡ list_all (alternate_fits self.now.max_record_len) self.now.alternate_keys.now }
+    {
+        self.alternate_keys
+            .iter()
+            .all(|key| self.alternate_fits(key))
+    }
+
+    #[tactic(auto, unfolding(byte_strings::specs::Bytes::same))]
+    fn alternate_fits(&self, key: &AlternateKey) -> bool
+        ensures { result ≡ alternate_fits self.now.max_record_len key.now }
+    {
+        key.specifier != [0, 0]
+            && key.field.offset <= HIGHEST_OFFSET
+            && self.field_fits(key.field)
+    }
+
+    // 1 to 32 bytes that end within the longest record.
+    fn field_fits(&self, field: KeyField) -> bool
+        ensures { result ≡ field_fits self.now.max_record_len field }
+    {
+        (1..=LONGEST_KEY).contains(&field.len)
+            && field.len <= self.max_record_len
+            && field.offset <= self.max_record_len - field.len
     }
 }
 
 impl AlternateKey {
-    #[tactic(auto, unfolding(byte_strings::specs::Bytes::same))]
-    fn fits(self, longest: usize) -> bool
-        ensures { result ≡ alternate_fits longest self }
-    {
-        self.specifier != [0, 0] && self.field.offset <= HIGHEST_OFFSET && self.field.fits(longest)
-    }
-
     // None of the others has the specifier.
     #[tactic(auto, unfolding(byte_strings::specs::Bytes::same))]
     fn differs_from_all(self, others: &[AlternateKey]) -> bool
@@ -77,29 +91,11 @@ impl AlternateKey {
     }
 }
 
-// At most four keys, each within its bounds, and no two with one specifier.
-fn table_fits(keys: &[AlternateKey], longest: usize) -> bool
-    ensures { result ≡ table_fits longest keys.now }
-{
-    keys.len() <= MOST_ALTERNATE_KEYS && all_fit(keys, longest) && specifiers_differ(keys)
-}
-
-fn all_fit(keys: &[AlternateKey], longest: usize) -> bool
-    ensures { result ≡ list_all (alternate_fits longest) keys.now }
-{
-    keys.iter().all(|key| key.fits(longest))
-}
-
-// Each key against those that follow it; a chain would have to count them.
 fn specifiers_differ(keys: &[AlternateKey]) -> bool
     ensures { result ≡ specifiers_differ keys.now }
 {
-    let mut left = keys;
-    while let [key, others @ ..] = left {
-        if !key.differs_from_all(others) {
-            return false;
-        }
-        left = others;
+    match keys {
+        [] => true,
+        [key, others @ ..] => key.differs_from_all(others) && specifiers_differ(others),
     }
-    true
 }

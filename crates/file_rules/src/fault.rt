@@ -79,6 +79,7 @@ impl CallFault {
     }
 }
 
+// The faults below come in by a `From` each, written out: a derived one does not promise which variant it makes.
 impl From<PrimaryFault> for CallFault {
     ghost from_gives = { λ x y. y ≡ primary_fault x };
 

@@ -23,7 +23,8 @@ pub enum PositioningMode {
     Exact,
 }
 
-// A code that names no mode. Each mode has a table of codes of its own; a shared function would have to be handed it.
+// A code that names no mode. Each mode has codes of its own, so each reads them itself: one function for all would have to
+// be handed a table of codes and modes.
 #[derive(Clone, Copy, PartialEq, Eq, Debug)]
 pub struct UnknownCode(pub usize);
 

@@ -31,7 +31,7 @@ impl<'a> RowChain<'a> {
     ghost use Rattle.row_chain.specs.Files.{held, limit_of};
 
     // A file with no row and that row limit. A limit outside 1 to 16,384, or above what the memory holds, is refused and
-    // the memory handed back.
+    // the memory handed back. A line over `RowSpace`, as for every row file: no trait of makers is plainer.
     pub fn new(
         memory: &'a mut [Slot],
         limit: usize,
@@ -62,7 +62,7 @@ impl<'a> RowChain<'a> {
         }
     }
 
-    // Where the row stands, or else would stand.
+    // Where the row stands, or else would stand. Slots are linked by numbers, so no iterator goes along them.
     pub(crate) fn seek(&self, row: &[u8]) -> Result<Seat, Seat>
         ensures found { is_ok result ≡ holds order (rows self.now.linked) row.now }
         ensures seat { MatchResult result (Seated self.now.linked row.now) (Seated self.now.linked row.now) }

@@ -1,4 +1,5 @@
-// The chain as a key-row file; its reading is a line each over its own walk, as in every file of rows.
+// The chain as a key-row file. Each method of reading is a line over the chain's own walk; a trait of row files below them
+// would have as many methods as it spares.
 ghost use Rattle.storage.specs.Rows.{bare, bare_ascending};
 ghost use Rattle.row_chain.specs.Files.{held, limit_of};
 

@@ -1,4 +1,5 @@
-// A table of rows is read in the order of its rows: a line each over its own search, as in every file of rows.
+// A table of rows is read in the order of its rows. Each method is a line over the table's own search; a trait of row
+// files below them would have as many methods as it spares.
 ghost use Rattle.storage.specs.Rows.{bare, bare_ascending};
 ghost use Rattle.row_table.specs.Tables.{rows, rows_ascend};
 

@@ -21,7 +21,7 @@ impl<'a> RowTable<'a> {
     ghost use Rattle.row_table.specs.Tables.{rows, limit_of};
 
     // A file with no row and that row limit. A limit outside 1 to 16,384, or above what the memory holds, is refused and
-    // the memory handed back.
+    // the memory handed back. A line over `RowSpace`, as for every row file: no trait of makers is plainer.
     pub fn new(
         memory: &'a mut [KeyRow],
         limit: usize,

@@ -3,30 +3,42 @@ ghost use Rattle.std.specs.Prelude.{◌≡◌};
 ghost use Rattle.storage.specs.Faults.{primary_number, row_number, absent_number, row_fault};
 
 use ordered_table::InsertFault;
-use std::error::Error;
-use std::fmt;
+use thiserror::Error;
 
 // No pair has the key.
-#[derive(Clone, Copy, PartialEq, Eq, Debug)]
+#[derive(Clone, Copy, PartialEq, Eq, Debug, Error)]
+#[error("no pair has the key")]
 pub struct Absent;
 
 // Why a primary file refuses.
-#[derive(Clone, Copy, PartialEq, Eq, Debug)]
+#[derive(Clone, Copy, PartialEq, Eq, Debug, Error)]
 pub enum PrimaryFault {
+    #[error("the record is there already")]
     AlreadyExists = 10, // a record has the key
+    #[error("the record is not there")]
     NotFound = 11, // no record has the key
-    IllegalCount = 21, // a length, a key or a stated figure is none for this file
-    FileFull = 45, // a stated limit would be passed
+    // a length, a key or a stated figure is none for this file
+    #[error("the length, the key or a stated figure is illegal")]
+    IllegalCount = 21,
+    // a stated limit would be passed
+    #[error("the primary file is full")]
+    FileFull = 45,
 }
 
-// Why a key-row file refuses. It is a type of its own, so that `?` carries each fault into its layer; one enum in two
-// wrappers would be longer to write at every refusal.
-#[derive(Clone, Copy, PartialEq, Eq, Debug)]
+// Why a key-row file refuses. It is a type of its own, as the rules want each fault told by its layer: `?` carries each
+// into its own.
+#[derive(Clone, Copy, PartialEq, Eq, Debug, Error)]
 pub enum RowFault {
+    #[error("the key row is there already")]
     AlreadyExists = 10, // the row is there
+    #[error("the key row is not there")]
     NotFound = 11, // the row is not there
-    IllegalCount = 21, // no row has that length, or no file that limit
-    FileFull = 45, // the row limit is reached
+    // no row has that length, or no file that limit
+    #[error("the length of the key row, or the row limit, is illegal")]
+    IllegalCount = 21,
+    // the row limit is reached
+    #[error("the key-row file is full")]
+    FileFull = 45,
 }
 
 impl Absent {
@@ -64,37 +76,3 @@ impl From<InsertFault> for RowFault {
         }
     }
 }
-
-impl fmt::Display for Absent {
-    fn fmt<W: fmt::Write>(&self, f: &mut fmt::Formatter<W>) -> fmt::Result {
-        f.write_str("no pair has the key")
-    }
-}
-
-impl Error for Absent {}
-
-impl fmt::Display for PrimaryFault {
-    fn fmt<W: fmt::Write>(&self, f: &mut fmt::Formatter<W>) -> fmt::Result {
-        f.write_str(match self {
-            PrimaryFault::AlreadyExists => "the record is there already",
-            PrimaryFault::NotFound => "the record is not there",
-            PrimaryFault::IllegalCount => "the length, the key or a stated figure is illegal",
-            PrimaryFault::FileFull => "the primary file is full",
-        })
-    }
-}
-
-impl Error for PrimaryFault {}
-
-impl fmt::Display for RowFault {
-    fn fmt<W: fmt::Write>(&self, f: &mut fmt::Formatter<W>) -> fmt::Result {
-        f.write_str(match self {
-            RowFault::AlreadyExists => "the key row is there already",
-            RowFault::NotFound => "the key row is not there",
-            RowFault::IllegalCount => "the length of the key row, or the row limit, is illegal",
-            RowFault::FileFull => "the key-row file is full",
-        })
-    }
-}
-
-impl Error for RowFault {}

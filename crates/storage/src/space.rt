@@ -8,8 +8,7 @@ use crate::faults::RowFault;
 use crate::limits::check_row_limit;
 use crate::refused::Refused;
 
-// As many cells as the file made of them is to hold rows. The `new` of each row file is a line over it; a trait for them
-// would have to be told the cells' type and their lifetime.
+// As many cells as the file made of them is to hold rows.
 #[derive(Drop)]
 pub struct RowSpace<'a, C> {
     cells: &'a mut [C],
