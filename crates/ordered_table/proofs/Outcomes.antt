@@ -1,5 +1,5 @@
 -- What the answers of an insertion and a removal tell, and what stands at the front after them. Assumes nothing.
-use Rattle.std.proofs.Common.{◌≡◌, ℕ, ◌+◌, ◌<◌, ◌≤◌, Bool, true, false, cond, List, ◌++◌, length, take, drop, Some, None, Ok, Err, Ordering, arith}
+use Rattle.std.proofs.Common.{◌≡◌, ℕ, ◌+◌, ◌<◌, ◌≤◌, Bool, true, false, cond, List, length, take, Some, None, Ok, Err, Ordering, arith}
 use Rattle.std.specs.List.{insert, remove}
 use Rattle.std.proofs.lemmas.List.Edits.{length-insert, length-remove}
 use Rattle.std.proofs.lemmas.List.{length-take, take_at}
@@ -32,10 +32,7 @@ module _ {E : Type 0} (cells : List E) (used at : ℕ) where
   pub front_inserted : (x : E) → at ≤ length (take used cells) → used < length cells → take (used + 1) (inserted_by (Ok at) cells used x) ≡ insert (take used cells) at x
   front_inserted x h l =
       let n = length-take used cells in
-      let long = length-insert (take used cells) at x h in
-      take_at (insert (take used cells) at x) (drop (used + 1) cells) (used + 1) (omega arith)
+      grind (arith, length-insert, take_at)
 
   pub front_removed : (n : ℕ) → at < length (take used cells) → n + 1 ≡ length (take used cells) → take n (removed_by (Some at) cells used) ≡ remove (take used cells) at
-  front_removed n h l =
-      let m = length-remove (take used cells) at h in
-      take_at (remove (take used cells) at) (take 1 (drop at cells) ++ drop used cells) n (omega arith)
+  front_removed n h l = grind (arith, length-remove, take_at)

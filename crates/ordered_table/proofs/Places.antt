@@ -1,5 +1,5 @@
 -- Where an entry stands among entries that ascend. Assumes nothing.
-use Rattle.std.proofs.Common.{◌≡◌, ℕ, zero, suc, ◌+◌, ◌<◌, ◌≤◌, true, false, T, List, [], ◌∷◌, map, length, get_or, Ok, Err, Result, Ordering, Less, Equal, Greater, sym, refl, ap, ◌∙◌, zero-le, arith, MatchResult}
+use Rattle.std.proofs.Common.{◌≡◌, ℕ, zero, suc, ◌+◌, ◌<◌, ◌≤◌, true, false, T, List, [], ◌∷◌, map, length, get_or, Ok, Err, Result, Ordering, Less, Equal, Greater, refl, zero-le, arith, MatchResult}
 use Rattle.std.specs.Cmp.{IsTotalOrder, alike_right}
 use Rattle.std.specs.Ordering.{is_lt, is_eq, ordering_index}
 use Rattle.std.specs.List.Sorted.{IsBinarySearchResult, IsNonDecreasingBy}
@@ -65,8 +65,8 @@ module _ {E : Type 0} {R : E → E → Ordering} (o : IsTotalOrder R) where
   pub found_at : (xs : List E) (x d : E) (i : ℕ) → Ascending R xs → i < length xs → R (get_or xs i d) x ≡ Equal → (holds R xs x ≡ true) × (place R xs x ≡ i)
   found_at xs x d i up l h =
       let before : (k : ℕ) → k < i → R (get_or xs k d) x ≡ Less =
-      λ k lt. sym (alike_right o (get_or xs i d) x (get_or xs k d) h) ∙ ordered R xs k i d up lt l in
-      (holds-some R xs x d i l h, place_is R xs x d i (omega arith) before (λ _. ap is_lt h))
+      λ k lt. let alike = alike_right o (get_or xs i d) x (get_or xs k d) h in let less = ordered R xs k i d up lt l in cc in
+      (holds-some R xs x d i l h, place_is R xs x d i (omega arith) before (grind arith))
 
   -- from an entry that comes after x on, all do
   pub greater_on : (xs : List E) (x d : E) (i : ℕ) → Ascending R xs → R (get_or xs i d) x ≡ Greater → (k : ℕ) → i ≤ k → k < length xs → R (get_or xs k d) x ≡ Greater
