@@ -27,9 +27,7 @@ module _ {chain : LinkedSlots} {row : Bytes} {seat : Seat} (here : Reached chain
     module _ (slot : Slot) (read : slot ≡ get_or chain.slots.now seat.at slot) where
       -- how the row there compares
       pub order-at : (key : Bytes) (r : Ordering) → key ≡ text slot.row → r ≡ order key row → order (get_or (rows chain) seat.index []) row ≡ r
-      order-at key r told said =
-          ap (λ y. order y row) (row_at chain seat.index seat.at slot here.at within l ∙ (ap (λ s. text s.row) (sym read) ∙ sym told))
-          ∙ sym said
+      order-at key r told said = let at = row_at chain seat.index seat.at slot here.at within l in grind arith
 
       pub reached_on : order (get_or (rows chain) seat.index []) row ≡ Less → Reached chain row (record { index = seat.index + 1; before = Some seat.at; at = slot.next })
       reached_on less =
@@ -44,14 +42,14 @@ module _ {chain : LinkedSlots} {row : Bytes} {seat : Seat} (here : Reached chain
     pub seated_equal : seat.index < chain.count → order (get_or (rows chain) seat.index []) row ≡ Equal → (true ≡ holds order (rows chain) row) × Seated chain row seat
     seated_equal l e =
         let n = length-rows chain in
-        let there = found_at total_order (rows chain) row [] seat.index up (omega arith) e in
-        (sym there.0, record { index = sym there.1; before = here.before; at = here.at })
+        let there = found_at total_order (rows chain) row [] seat.index up in
+        grind arith
 
     missing : seat.index ≤ chain.count → ((k : ℕ) → seat.index ≤ k → k < length (rows chain) → order (get_or (rows chain) k []) row ≡ Greater) → (false ≡ holds order (rows chain) row) × Seated chain row seat
     missing l above =
         let n = length-rows chain in
         let there = missing_at order (rows chain) row [] seat.index (omega arith) here.below above in
-        (sym there.0, record { index = sym there.1; before = here.before; at = here.at })
+        grind arith
 
     pub seated_greater : seat.index < chain.count → order (get_or (rows chain) seat.index []) row ≡ Greater → (false ≡ holds order (rows chain) row) × Seated chain row seat
     seated_greater l e = missing (omega arith) (greater_on total_order (rows chain) row [] seat.index up e)
