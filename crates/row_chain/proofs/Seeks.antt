@@ -1,5 +1,5 @@
 -- A search along the chain comes to the row's seat. Assumes nothing.
-use Rattle.std.proofs.Common.{◌≡◌, ℕ, ◌+◌, ◌<◌, ◌≤◌, true, false, [], length, get_or, Some, Ordering, Less, Equal, Greater, sym, ap, ◌∙◌, subst, add-one, below_more, arith}
+use Rattle.std.proofs.Common.{◌≡◌, ℕ, ◌+◌, ◌<◌, ◌≤◌, true, false, [], length, get_or, Some, Ordering, Less, Equal, Greater, ap, subst, add-one, below_more, arith}
 use Rattle.byte_strings.specs.Bytes.{Bytes, order}
 use Rattle.byte_strings.specs.Texts.{text}
 use Rattle.byte_strings.proofs.TotalOrder.{total_order}
@@ -33,8 +33,8 @@ module _ {chain : LinkedSlots} {row : Bytes} {seat : Seat} (here : Reached chain
       reached_on less =
           let on = add-one seat.index in
           record {
-            before = ap Some here.at ∙ ap (slot_before (links chain.slots.now) chain.head) (sym on);
-            at = ap (λ s. s.next) read ∙ (next-at chain seat.index seat.at slot here.at within ∙ ap (follow (links chain.slots.now) chain.head) (sym on));
+            before = rw on (ap Some here.at);
+            at = rw (on, read) (next-at chain seat.index seat.at slot here.at within);
             below = below_more _ _ here.below less;
           }
 
