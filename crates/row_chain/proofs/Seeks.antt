@@ -1,5 +1,5 @@
 -- A search along the chain comes to the row's seat. Assumes nothing.
-use Rattle.std.proofs.Common.{◌≡◌, ℕ, ◌+◌, ◌<◌, ◌≤◌, true, false, [], length, get_or, Some, Ordering, Less, Equal, Greater, ap, subst, add-one, below_more, arith}
+use Rattle.std.proofs.Common.{◌≡◌, ℕ, ◌+◌, ◌<◌, ◌≤◌, true, false, [], length, get_or, Some, Ordering, Less, Equal, Greater, ap, add-one, below_more, arith}
 use Rattle.byte_strings.specs.Bytes.{Bytes, order}
 use Rattle.byte_strings.specs.Texts.{text}
 use Rattle.byte_strings.proofs.TotalOrder.{total_order}
@@ -58,4 +58,4 @@ module _ {chain : LinkedSlots} {row : Bytes} {seat : Seat} (here : Reached chain
     seated_end e =
         let n = length-rows chain in
         let there = missing (omega arith) (λ k h b. absurd (omega arith)) in
-        (there.0, subst (λ i. Seated chain row (record { index = i; before = seat.before; at = seat.at })) e there.1)
+        grind arith

@@ -1,4 +1,4 @@
-use Rattle.std.proofs.Common.{◌+◌, length, refl, ap, ◌∙◌, zero-le, arith}
+use Rattle.std.proofs.Common.{◌+◌, length, zero-le, arith}
 use Rattle.std.proofs.lemmas.List.{get_or-set_same, get_or-set_other}
 use Rattle.row_chain.specs.Links.{links, walk}
 use Rattle.row_chain.proofs.Fresh.{all_once}
@@ -24,4 +24,4 @@ invariant_of-result c =
 
 pub returns : goal.returns
 unfolding walk
-returns c = record { rows = refl; limit = c.loop-i.auto.slots ∙ ap length c.into_cells-slots.ensures }
+returns c = grind arith

@@ -1,20 +1,10 @@
-use Rattle.std.proofs.Common.{◌≡◌, ℕ, is_ok, cond, Ok, Err, Result, MatchResult, rules, arith}
-use Rattle.std.specs.Result.{IsOkAnd, IsErrAnd}
-use Rattle.storage.specs.declared.faults.Absent.{Absent}
+use Rattle.std.proofs.Common.{arith}
 use Rattle.storage.proofs.Bare.{fetch_held, fetch_absent}
 use Rattle.row_chain.specs.Chains.{rows}
-use Rattle.row_chain.specs.declared.seat.Seat.{Seat}
 use Rattle.row_chain.proofs.file.RowChainOrderedReading.fetch.Goals as goal
-
-mapped : (s : Result Seat Seat) (m : Result ℕ Seat) (r : Result ℕ Absent) → MatchResult s (λ _. IsOkAnd m (λ n. n ≡ 0)) (λ e. m ≡ Err e) → MatchResult m (λ n. r ≡ Ok n) (λ _. IsErrAnd r (λ f. f ≡ record {})) → r ≡ cond (is_ok s) (Ok 0) (Err (record {}))
-mapped s m r h k = grind arith
 
 pub returns : goal.returns
 returns c =
-    let m : MatchResult c.seek.result (λ _. IsOkAnd c.map.result (λ n. n ≡ 0)) (λ e. c.map.result ≡ Err e) = search rules in
-    let n : MatchResult c.map.result (λ n. c.map_err.result ≡ Ok n) (λ _. IsErrAnd c.map_err.result (λ f. f ≡ record {})) = search rules in
-    let is = mapped c.seek.result c.map.result c.map_err.result m n in
-    let there = c.seek.ensures.found in
     let held = fetch_held (rows c.args.self.now.linked) c.args.key.now c.args.bytes.now in
     let absent = fetch_absent (rows c.args.self.now.linked) c.args.key.now c.args.bytes.now in
     grind arith
