@@ -1,47 +1,30 @@
 -- What the answers of an insertion and a removal tell, and what stands at the front after them. Assumes nothing.
-use Rattle.std.proofs.Common.{◌≡◌, ℕ, ◌+◌, ◌<◌, ◌≤◌, Bool, true, false, cond, leb, List, ◌++◌, length, take, drop, Some, None, Ok, Err, Ordering, refl, ◌∙◌, arith}
+use Rattle.std.proofs.Common.{◌≡◌, ℕ, ◌+◌, ◌<◌, ◌≤◌, Bool, true, false, cond, List, length, take, Some, None, Ok, Err, Ordering, arith}
 use Rattle.std.specs.List.{insert, remove}
 use Rattle.std.proofs.lemmas.List.Edits.{length-insert, length-remove}
 use Rattle.std.proofs.lemmas.List.{length-take, take_at}
-use Rattle.std.proofs.lemmas.Bool.{leb-false}
-use Rattle.ordered_table.specs.declared.fault.InsertFault.TheVariants.{Present, Full}
+use Rattle.std.proofs.lemmas.Bool.Decides.{nat_tests}
 use Rattle.ordered_table.specs.Table.{holds, place, insertion, removal, inserted_by, removed_by}
 
 -- ---- searches
 
 pub not_there : (b : Bool) (p at : ℕ) → Err at ≡ cond b (Ok p) (Err p) → (b ≡ false) × (p ≡ at)
-not_there true p at e = let z : ◌≡◌ {A = ℕ} 0 1 = cc in absurd (omega arith)
-not_there false p at e = (refl, cc)
+not_there b p at e = grind arith
 
 pub is_there : (b : Bool) (p at : ℕ) → Ok at ≡ cond b (Ok p) (Err p) → (b ≡ true) × (p ≡ at)
-is_there true p at e = (refl, cc)
-is_there false p at e = let z : ◌≡◌ {A = ℕ} 0 1 = cc in absurd (omega arith)
+is_there b p at e = grind arith
 
 -- ---- insertions and removals
 
-accepted : (there full : Bool) (p at : ℕ) → Ok at ≡ cond there (Err Present) (cond full (Err Full) (Ok p)) → (there ≡ false) × (full ≡ false) × (p ≡ at)
-accepted true full p at e = let z : ◌≡◌ {A = ℕ} 0 1 = cc in absurd (omega arith)
-accepted false true p at e = let z : ◌≡◌ {A = ℕ} 0 1 = cc in absurd (omega arith)
-accepted false false p at e = (refl, refl, cc)
-
-taken : (there : Bool) (p at : ℕ) → Some at ≡ cond there (Some p) None → (there ≡ true) × (p ≡ at)
-taken true p at e = (refl, cc)
-taken false p at e = let z : ◌≡◌ {A = ℕ} 0 1 = cc in absurd (omega arith)
-
-left : (there : Bool) (p : ℕ) → None ≡ cond there (Some p) None → there ≡ false
-left true p e = let z : ◌≡◌ {A = ℕ} 0 1 = cc in absurd (omega arith)
-left false p e = refl
-
 module _ {E : Type 0} (cmp : E → E → Ordering) (xs : List E) (x : E) where
   pub insertion_accepted : (cells used at : ℕ) → Ok at ≡ insertion cmp cells used xs x → (holds cmp xs x ≡ false) × (used < cells) × (place cmp xs x ≡ at)
-  insertion_accepted cells used at e =
-      let f = accepted (holds cmp xs x) (leb cells used) (place cmp xs x) at e in (f.0, leb-false cells used f.1, f.2)
+  insertion_accepted cells used at e = grind (arith, nat_tests)
 
   pub removal_accepted : (at : ℕ) → Some at ≡ removal cmp xs x → (holds cmp xs x ≡ true) × (place cmp xs x ≡ at)
-  removal_accepted at e = taken (holds cmp xs x) (place cmp xs x) at e
+  removal_accepted at e = grind arith
 
   pub removal_refused : None ≡ removal cmp xs x → holds cmp xs x ≡ false
-  removal_refused e = left (holds cmp xs x) (place cmp xs x) e
+  removal_refused e = grind arith
 
 -- ---- the cells in use afterwards
 
@@ -49,10 +32,7 @@ module _ {E : Type 0} (cells : List E) (used at : ℕ) where
   pub front_inserted : (x : E) → at ≤ length (take used cells) → used < length cells → take (used + 1) (inserted_by (Ok at) cells used x) ≡ insert (take used cells) at x
   front_inserted x h l =
       let n = length-take used cells in
-      let long : length (insert (take used cells) at x) ≡ used + 1 = length-insert (take used cells) at x h ∙ omega arith in
-      take_at (insert (take used cells) at x) (drop (used + 1) cells) (used + 1) long
+      grind (arith, length-insert, take_at)
 
   pub front_removed : (n : ℕ) → at < length (take used cells) → n + 1 ≡ length (take used cells) → take n (removed_by (Some at) cells used) ≡ remove (take used cells) at
-  front_removed n h l =
-      let m = length-remove (take used cells) at h in
-      take_at (remove (take used cells) at) (take 1 (drop at cells) ++ drop used cells) n (omega arith)
+  front_removed n h l = grind (arith, length-remove, take_at)

@@ -1,7 +1,6 @@
 -- How often a number stands in a list, and lists with each number below n once. Assumes nothing.
-use Rattle.std.proofs.Common.{◌≡◌, ℕ, ◌+◌, ◌<◌, cond, eqb, List, [], ◌∷◌, ◌++◌, sym, refl, ap, ◌∙◌, arith}
+use Rattle.std.proofs.Common.{◌≡◌, ℕ, ◌+◌, ◌<◌, cond, eqb, List, [], ◌∷◌, ◌++◌, sym, refl, ◌∙◌, arith}
 use Rattle.std.proofs.lemmas.List.Sums.{sum_by-cons, sum_by-append}
-use Rattle.std.proofs.lemmas.Bool.{eq-eqb}
 use Rattle.std.proofs.lemmas.Bool.Decides.{nat_tests}
 use Rattle.row_chain.specs.Chains.{times, Once}
 
@@ -18,22 +17,14 @@ module _ (i : ℕ) where
   unfolding times
   times-append xs ys = sum_by-append (λ y. cond (eqb i y) 1 0) xs ys
 
-  times-three : (xs ys zs : List ℕ) → times i ((xs ++ ys) ++ zs) ≡ (times i xs + times i ys) + times i zs
-  times-three xs ys zs = times-append (xs ++ ys) zs ∙ ap (λ n. n + times i zs) (times-append xs ys)
-
   -- a number that is not in a list is not its first, and not in the rest
   pub not_in : (x : ℕ) (xs : List ℕ) → times i (x ∷ xs) ≡ 0 → (x ≡ i → ⊥) × (times i xs ≡ 0)
-  not_in x xs h = let e = times-cons x xs in (λ same. let t = eq-eqb i x (sym same) in grind (arith, nat_tests), grind (arith, nat_tests))
+  not_in x xs h = let e = times-cons x xs in grind (arith, nat_tests)
 
 module _ (x : ℕ) (xs ys zs : List ℕ) where
   -- a number counts the same in the second list as in the third
   pub times-moved : (i : ℕ) → times i ((xs ++ x ∷ ys) ++ zs) ≡ times i ((xs ++ ys) ++ x ∷ zs)
-  times-moved i =
-      let e = times-three i xs (x ∷ ys) zs in
-      let f = times-three i xs ys (x ∷ zs) in
-      let g = times-cons i x ys in
-      let h = times-cons i x zs in
-      omega arith
+  times-moved i = grind (arith, times-append, times-cons)
 
   pub once_later : (n : ℕ) → Once n ((xs ++ x ∷ ys) ++ zs) → Once n ((xs ++ ys) ++ x ∷ zs)
   once_later n h i = sym (times-moved i) ∙ h i
@@ -43,9 +34,4 @@ module _ (x : ℕ) (xs ys zs : List ℕ) where
 
   -- what stands there once is below n, and nowhere else
   pub alone : (n : ℕ) → Once n ((xs ++ ys) ++ x ∷ zs) → (x < n) × (times x xs ≡ 0) × (times x ys ≡ 0) × (times x zs ≡ 0)
-  alone n h =
-      let e = h x in
-      let f = times-three x xs ys (x ∷ zs) in
-      let g = times-cons x x zs in
-      let t = eq-eqb x x refl in
-      (grind (arith, nat_tests), grind (arith, nat_tests), grind (arith, nat_tests), grind (arith, nat_tests))
+  alone n h = let e = h x in grind (arith, nat_tests, times-append, times-cons)

@@ -1,5 +1,5 @@
 -- A search along the chain comes to the row's seat. Assumes nothing.
-use Rattle.std.proofs.Common.{◌≡◌, ℕ, ◌+◌, ◌<◌, ◌≤◌, true, false, [], length, get_or, Some, Ordering, Less, Equal, Greater, sym, ap, ◌∙◌, subst, add-one, below_more, arith}
+use Rattle.std.proofs.Common.{◌≡◌, ℕ, ◌+◌, ◌<◌, ◌≤◌, true, false, [], length, get_or, Some, Ordering, Less, Equal, Greater, ap, add-one, below_more, arith}
 use Rattle.byte_strings.specs.Bytes.{Bytes, order}
 use Rattle.byte_strings.specs.Texts.{text}
 use Rattle.byte_strings.proofs.TotalOrder.{total_order}
@@ -27,16 +27,14 @@ module _ {chain : LinkedSlots} {row : Bytes} {seat : Seat} (here : Reached chain
     module _ (slot : Slot) (read : slot ≡ get_or chain.slots.now seat.at slot) where
       -- how the row there compares
       pub order-at : (key : Bytes) (r : Ordering) → key ≡ text slot.row → r ≡ order key row → order (get_or (rows chain) seat.index []) row ≡ r
-      order-at key r told said =
-          ap (λ y. order y row) (row_at chain seat.index seat.at slot here.at within l ∙ (ap (λ s. text s.row) (sym read) ∙ sym told))
-          ∙ sym said
+      order-at key r told said = let at = row_at chain seat.index seat.at slot here.at within l in grind arith
 
       pub reached_on : order (get_or (rows chain) seat.index []) row ≡ Less → Reached chain row (record { index = seat.index + 1; before = Some seat.at; at = slot.next })
       reached_on less =
           let on = add-one seat.index in
           record {
-            before = ap Some here.at ∙ ap (slot_before (links chain.slots.now) chain.head) (sym on);
-            at = ap (λ s. s.next) read ∙ (next-at chain seat.index seat.at slot here.at within ∙ ap (follow (links chain.slots.now) chain.head) (sym on));
+            before = rw on (ap Some here.at);
+            at = rw (on, read) (next-at chain seat.index seat.at slot here.at within);
             below = below_more _ _ here.below less;
           }
 
@@ -44,14 +42,14 @@ module _ {chain : LinkedSlots} {row : Bytes} {seat : Seat} (here : Reached chain
     pub seated_equal : seat.index < chain.count → order (get_or (rows chain) seat.index []) row ≡ Equal → (true ≡ holds order (rows chain) row) × Seated chain row seat
     seated_equal l e =
         let n = length-rows chain in
-        let there = found_at total_order (rows chain) row [] seat.index up (omega arith) e in
-        (sym there.0, record { index = sym there.1; before = here.before; at = here.at })
+        let there = found_at total_order (rows chain) row [] seat.index up in
+        grind arith
 
     missing : seat.index ≤ chain.count → ((k : ℕ) → seat.index ≤ k → k < length (rows chain) → order (get_or (rows chain) k []) row ≡ Greater) → (false ≡ holds order (rows chain) row) × Seated chain row seat
     missing l above =
         let n = length-rows chain in
         let there = missing_at order (rows chain) row [] seat.index (omega arith) here.below above in
-        (sym there.0, record { index = sym there.1; before = here.before; at = here.at })
+        grind arith
 
     pub seated_greater : seat.index < chain.count → order (get_or (rows chain) seat.index []) row ≡ Greater → (false ≡ holds order (rows chain) row) × Seated chain row seat
     seated_greater l e = missing (omega arith) (greater_on total_order (rows chain) row [] seat.index up e)
@@ -60,4 +58,4 @@ module _ {chain : LinkedSlots} {row : Bytes} {seat : Seat} (here : Reached chain
     seated_end e =
         let n = length-rows chain in
         let there = missing (omega arith) (λ k h b. absurd (omega arith)) in
-        (there.0, subst (λ i. Seated chain row (record { index = i; before = seat.before; at = seat.at })) e there.1)
+        grind arith

@@ -1,5 +1,5 @@
 -- What a write to one slot leaves of the rows and of the links. Assumes nothing.
-use Rattle.std.proofs.Common.{◌≡◌, ℕ, ◌<◌, List, [], length, get_or, set, Some, None, Option, sym, refl, ap, ◌∙◌}
+use Rattle.std.proofs.Common.{◌≡◌, ℕ, ◌<◌, List, [], length, get_or, set, Option, arith}
 use Rattle.std.proofs.lemmas.List.{length-map, length-set, map-set, get_or-map, set-get_or}
 use Rattle.byte_strings.specs.Texts.{text}
 use Rattle.row_chain.specs.declared.slot.Slot.{Slot}
@@ -25,15 +25,13 @@ module _ (slots : List Slot) where
 
       pub texts-kept : (slot : Slot) → slot.row ≡ (get_or slots i d).row → texts (set slots i slot) ≡ texts slots
       texts-kept slot e =
-          texts-set slot
-          ∙ (ap (λ row. set (texts slots) i (text row)) e ∙ (ap (set (texts slots) i) (sym text_at) ∙ set-get_or (texts slots) i []))
+          let same = texts-set slot in
+          let held = text_at in
+          grind (arith, set-get_or)
 
 length-redirected : (before : Option ℕ) (to : ℕ) (ns : List ℕ) → length (redirected before to ns) ≡ length ns
-length-redirected None to ns = refl
-length-redirected (Some before) to ns = length-set ns before to
+length-redirected before to ns = grind (arith, length-set)
 
 -- slots whose links differ in two places are as many
 pub length-after : (slots after : List Slot) (before : Option ℕ) (to x v : ℕ) → links after ≡ redirected before to (set (links slots) x v) → length after ≡ length slots
-length-after slots after before to x v e =
-    sym (length-links after)
-    ∙ (ap length e ∙ (length-redirected before to (set (links slots) x v) ∙ (length-set (links slots) x v ∙ length-links slots)))
+length-after slots after before to x v e = grind (arith, length-links, length-redirected, length-set)

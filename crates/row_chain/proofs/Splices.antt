@@ -1,5 +1,5 @@
 -- The chain after a row has been spliced in. Assumes nothing.
-use Rattle.std.proofs.Common.{◌≡◌, ℕ, suc, ◌-◌, ◌<◌, ◌≤◌, List, [], ◌∷◌, ◌++◌, length, get_or, set, sym, refl, ap, ◌∙◌, subst, arith}
+use Rattle.std.proofs.Common.{◌≡◌, ℕ, suc, ◌-◌, ◌<◌, ◌≤◌, List, [], ◌∷◌, ◌++◌, length, get_or, set, refl, ap, arith}
 use Rattle.std.specs.List.{insert}
 use Rattle.std.proofs.lemmas.List.{get_or-set_same, get_or-set_other, length-map, drop_at, take_at}
 use Rattle.byte_strings.specs.Bytes.{Bytes, order}
@@ -27,7 +27,9 @@ rows_past : (held : List Bytes) (x : ℕ) (row : Bytes) (places : List ℕ) → 
 rows_past held x row [] h = refl
 rows_past held x row (i ∷ places) h =
     let apart = not_in x i places h in
-    λ t. get_or-set_other held x i row [] apart.0 t ∷ rows_past held x row places apart.1 t
+    let other = get_or-set_other held x i row [] in
+    let ih = rows_past held x row places in
+    grind arith
 
 module _ (chain : LinkedSlots) (row : Bytes) (seat : Seat) (whole : Whole chain) (room : chain.count < length chain.slots.now) (seated : Seated chain row seat) where
   abbrev slots : List Slot
@@ -59,13 +61,18 @@ module _ (chain : LinkedSlots) (row : Bytes) (seat : Seat) (whole : Whole chain)
   split =
       let l = index_le in
       let m = chain.count - seat.index in
-      walk-on ns chain.head seat.index m chain.count (omega arith) ∙ ap (λ a. front ++ walk ns a m) (sym seated.at)
+      let on = walk-on ns chain.head seat.index m chain.count (omega arith) in
+      let at = seated.at in
+      cc
 
   parts : Once (length slots) ((front ++ back) ++ fresh ∷ others)
   unfolding walk
   parts j =
       let e : suc left ≡ length slots - chain.count = omega arith in
-      (λ t. times j (sym split t ++ walk ns fresh (e t))) ∙ whole j
+      let s = split in
+      let h = whole j in
+      let f = ap (walk ns fresh) e in
+      cc
 
   apart : (fresh < length slots) × (times fresh front ≡ 0) × (times fresh back ≡ 0) × (times fresh others ≡ 0)
   apart = alone fresh front back others (length slots) parts
@@ -95,14 +102,14 @@ module _ (chain : LinkedSlots) (row : Bytes) (seat : Seat) (whole : Whole chain)
         once
 
     used-after : used after ≡ front ++ fresh ∷ back
-    used-after = (λ t. walk (s.links_after t) (s.head_after t) (s.count_after t)) ∙ walks.0
+    used-after = rw (s.links_after, s.head_after, s.count_after) walks.0
 
     unused-after : unused after ≡ others
     unused-after =
         let n = as_many in
         let c = s.count_after in
         let e : length after.slots.now - after.count ≡ left = omega arith in
-        (λ t. walk (s.links_after t) (s.free_after t) (e t)) ∙ walks.1
+        rw (e, s.links_after, s.free_after) walks.1
 
     whole_after : Whole after
     whole_after = whole_from after (length slots) (front ++ fresh ∷ back) others as_many used-after unused-after once
@@ -110,12 +117,18 @@ module _ (chain : LinkedSlots) (row : Bytes) (seat : Seat) (whole : Whole chain)
     rows-after : rows after ≡ insert (rows chain) (place order (rows chain) row) row
     rows-after =
         let held = texts slots in
-        let within : fresh < length held = subst (λ n. fresh < n) (sym (length-map slots (λ (z : Slot). text z.row))) apart.0 in
-        let none : times fresh (used chain) ≡ 0 = ap (times fresh) split ∙ (times-append fresh front back ∙ let a = apart.1 in let b = apart.2 in omega arith) in
-        let way = used-after ∙ (sym (inserted_at front back seat.index fresh (length-walk ns chain.head seat.index)) ∙ ap (λ l. insert l seat.index fresh) (sym split)) in
-        (λ t. rows_at (s.texts_after t) (way t))
-        ∙ (map-inserted (λ (i : ℕ). get_or (set held fresh row) i []) (used chain) seat.index fresh
-        ∙ (λ t. insert (rows_past held fresh row (used chain) none t) (seated.index t) (get_or-set_same held fresh row [] within t)))
+        let n = length-map slots (λ (z : Slot). text z.row) in
+        let at = apart in
+        let parted = split in
+        let none : times fresh (used chain) ≡ 0 = grind (arith, times-append) in
+        let way = used-after in
+        let put = inserted_at front back seat.index fresh (length-walk ns chain.head seat.index) in
+        let mapped = map-inserted (λ (i : ℕ). get_or (set held fresh row) i []) (used chain) seat.index fresh in
+        let past = rows_past held fresh row (used chain) none in
+        let there = get_or-set_same held fresh row [] in
+        let texts_after = s.texts_after in
+        let index = seated.index in
+        grind arith
 
     pub spliced_in : (length after.slots.now ≡ length slots) × Whole after × (rows after ≡ insert (rows chain) (place order (rows chain) row) row)
     spliced_in = (as_many, whole_after, rows-after)

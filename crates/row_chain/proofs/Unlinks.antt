@@ -1,5 +1,5 @@
 -- The chain after a row has been taken out. Assumes nothing.
-use Rattle.std.proofs.Common.{◌≡◌, ℕ, suc, pred, ◌-◌, ◌<◌, ◌≤◌, true, List, [], ◌∷◌, ◌++◌, length, get_or, set, sym, refl, ap, ◌∙◌, subst, arith}
+use Rattle.std.proofs.Common.{◌≡◌, ℕ, suc, pred, ◌-◌, ◌<◌, ◌≤◌, true, List, [], ◌∷◌, ◌++◌, length, get_or, set, refl, arith}
 use Rattle.std.specs.List.{remove}
 use Rattle.byte_strings.specs.Bytes.{Bytes, order}
 use Rattle.ordered_table.specs.Table.{holds, place}
@@ -8,7 +8,7 @@ use Rattle.ordered_table.proofs.Places.{place_lt}
 use Rattle.row_chain.specs.declared.links.LinkedSlots.{LinkedSlots}
 use Rattle.row_chain.specs.declared.seat.Seat.{Seat}
 use Rattle.row_chain.specs.declared.slot.Slot.{Slot}
-use Rattle.row_chain.specs.Chains.{used, unused, rows_at, rows, times, Once, Whole}
+use Rattle.row_chain.specs.Chains.{used, unused, rows, times, Once, Whole}
 use Rattle.row_chain.specs.Links.{texts, links, walk, redirected, new_head}
 use Rattle.row_chain.specs.Seats.{Seated, Unlinked}
 use Rattle.row_chain.proofs.Counts.{alone, once_later}
@@ -19,7 +19,7 @@ use Rattle.row_chain.proofs.Walks.{length-walk, walk_at, walk_past, walk_through
 
 removed_at : (xs ys : List ℕ) (x : ℕ) → remove (xs ++ x ∷ ys) (length xs) ≡ xs ++ ys
 removed_at [] ys x = refl
-removed_at (z ∷ zs) ys x = ap (λ l. z ∷ l) (removed_at zs ys x)
+removed_at (z ∷ zs) ys x = let ih = removed_at zs ys x in cc
 
 module _ (chain : LinkedSlots) (row : Bytes) (seat : Seat) (whole : Whole chain) (seated : Seated chain row seat) (held : holds order (rows chain) row ≡ true) where
   abbrev slots : List Slot
@@ -45,12 +45,13 @@ module _ (chain : LinkedSlots) (row : Bytes) (seat : Seat) (whole : Whole chain)
   split =
       let l = index_lt in
       let m = chain.count - suc seat.index in
-      walk_at ns chain.head seat.index m chain.count (omega arith) ∙ ap (λ a. front ++ a ∷ walk ns (get_or ns a 0) m) (sym seated.at)
+      let at = seated.at in
+      let through = walk_at ns chain.head seat.index m chain.count (omega arith) in
+      cc
 
   parts : Once (length slots) ((front ++ behind) ++ seat.at ∷ unused chain)
   parts =
-      once_later seat.at front behind (unused chain) (length slots)
-      (subst (λ places. Once (length slots) (places ++ unused chain)) split whole)
+      once_later seat.at front behind (unused chain) (length slots) (λ j. let s = split in let h = whole j in cc)
 
   apart : (seat.at < length slots) × (times seat.at front ≡ 0) × (times seat.at behind ≡ 0) × (times seat.at (unused chain) ≡ 0)
   apart = alone seat.at front behind (unused chain) (length slots) parts
@@ -80,7 +81,7 @@ module _ (chain : LinkedSlots) (row : Bytes) (seat : Seat) (whole : Whole chain)
         parts
 
     used-after : used after ≡ front ++ behind
-    used-after = (λ t. walk (u.links_after t) (u.head_after t) (u.count_after t)) ∙ walks.0
+    used-after = rw (u.links_after, u.head_after, u.count_after) walks.0
 
     unused-after : unused after ≡ seat.at ∷ unused chain
     unused-after =
@@ -88,7 +89,7 @@ module _ (chain : LinkedSlots) (row : Bytes) (seat : Seat) (whole : Whole chain)
         let c = u.count_after in
         let l = index_lt in
         let e : length after.slots.now - after.count ≡ suc left = omega arith in
-        (λ t. walk (u.links_after t) (u.free_after t) (e t)) ∙ walks.1
+        rw (e, u.links_after, u.free_after) walks.1
 
     whole_after : Whole after
     whole_after =
@@ -96,9 +97,11 @@ module _ (chain : LinkedSlots) (row : Bytes) (seat : Seat) (whole : Whole chain)
 
     rows-after : rows after ≡ remove (rows chain) (place order (rows chain) row)
     rows-after =
-        let way = used-after ∙ (sym (removed_at front behind seat.at) ∙ (λ t. remove (sym split t) (length-walk ns chain.head seat.index t))) in
-        (λ t. rows_at (u.texts_after t) (way t))
-        ∙ (map-removed (λ (i : ℕ). get_or (texts slots) i []) (used chain) seat.index ∙ ap (remove (rows chain)) seated.index)
+        let cut = removed_at front behind seat.at in
+        let n = length-walk ns chain.head seat.index in
+        let parted = split in
+        let way : used after ≡ remove (used chain) seat.index = rw used-after cc in
+        rw (u.texts_after, way, ← seated.index) (map-removed (λ (i : ℕ). get_or (texts slots) i []) (used chain) seat.index)
 
     pub taken_out : (length after.slots.now ≡ length slots) × Whole after × (rows after ≡ remove (rows chain) (place order (rows chain) row))
     taken_out = (as_many, whole_after, rows-after)

@@ -1,4 +1,4 @@
-use Rattle.std.proofs.Common.{◌≡◌, pred, ◌+◌, ◌<◌, min, length, take, sub-one, arith, rules}
+use Rattle.std.proofs.Common.{pred, min, length, take, arith, rules}
 use Rattle.std.proofs.lemmas.List.{same_lists, places, length-take}
 use Rattle.ordered_table.proofs.Edits.{ascending_cut}
 use Rattle.ordered_table.proofs.Outcomes.{front_removed}
@@ -6,7 +6,6 @@ use Rattle.ordered_table.proofs.remove.Goals as goal
 
 pub returns-clause-after : goal.returns-clause-after
 returns-clause-after g c =
-    let b : c.in_ok-at.at < length (take c.args.used c.args.cells.now) = search rules in
     let n = length-take c.args.used c.args.cells.now in
     same_lists _ _ (search (rules, places)) (λ k d h. let e = c.rotate_left.ensures.by_index in grind (arith, places))
 
@@ -14,7 +13,8 @@ pub returns-clause-ascending : goal.returns-clause-ascending
 returns-clause-ascending g c up =
     let cells = c.args.cells.now in
     let used = c.args.used in
-    let b : c.in_ok-at.at < length (take used cells) = search rules in
     let n = length-take used cells in
-    let less : pred (min used (length cells)) + 1 ≡ length (take used cells) = rw (← sub-one) (omega arith) in
-    rw (returns-clause-after g c, front_removed cells used c.in_ok-at.at _ b less) (ascending_cut g.E.Ord.cmp _ c.in_ok-at.at up)
+    let front = front_removed cells used c.in_ok-at.at (pred (min used (length cells))) in
+    let after = returns-clause-after g c in
+    let cut = ascending_cut g.E.Ord.cmp (take used cells) c.in_ok-at.at up in
+    grind arith

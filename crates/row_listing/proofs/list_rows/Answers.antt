@@ -1,7 +1,7 @@
 use Rattle.std.proofs.Common.{◌<◌, ◌≤◌, length, take, vec_items, ap, ◌∙◌, arith}
 use Rattle.std.specs.Option.{option_map}
 use Rattle.std.proofs.lemmas.List.{length-map, take_all}
-use Rattle.std.proofs.lemmas.Option.{none-some, same_Some}
+use Rattle.std.proofs.lemmas.Option.{none-some}
 use Rattle.byte_strings.specs.Bytes.{Bytes}
 use Rattle.storage.specs.Pairs.{keys}
 use Rattle.row_listing.proofs.Steps.{follows, listed_more}
@@ -15,9 +15,8 @@ loop-preserved g c = λ h.
     let l : c.loop.counter < length (keys ps) = omega arith in
     let listed = c.loop.invariant h in
     let f = follows (keys ps) (vec_items c.loop.rows) c.loop.counter c.deref.result.now c.last.result (g.met.R.OrderedReading.ascending c.args.file.now) listed l c.deref.ensures.value c.last.ensures.value in
-    listed_more (keys ps) (vec_items c.loop.rows) c.loop.counter h listed l c.in-Some.row (vec_items c.push.new.self)
-    (same_Some _ _ (c.in-Some.ensures ∙ ap (option_map (take 66)) f))
-    c.in_ok-push.ensures.items
+    let more = listed_more (keys ps) (vec_items c.loop.rows) c.loop.counter h listed l c.in-Some.row (vec_items c.push.new.self) in
+    grind arith
 
 pub returns : goal.returns
 returns g c = λ h.

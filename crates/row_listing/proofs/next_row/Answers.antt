@@ -1,7 +1,5 @@
-use Rattle.std.proofs.Common.{ℕ, replicate, ◌∙◌, ap}
-use Rattle.std.specs.Option.{option_map}
+use Rattle.std.proofs.Common.{ℕ, replicate, arith}
 use Rattle.std.proofs.lemmas.List.{length-replicate}
-use Rattle.byte_strings.specs.Texts.{text}
 use Rattle.storage.specs.Pairs.{keys, next}
 use Rattle.row_listing.proofs.Steps.{cut_key}
 use Rattle.row_listing.proofs.next_row.Goals as goal
@@ -9,6 +7,6 @@ use Rattle.row_listing.proofs.next_row.Goals as goal
 pub returns : goal.returns
 returns g c =
     let o = next c.args.mark c.args.from.now (keys (g.R.OrderedReading.pairs c.args.file.now)) in
-    let found = c.find-there.ensures in
-    ap (option_map text) c.then_some.ensures
-    ∙ cut_key o (replicate 66 0) c.find-there.new.key c.find-there.result.0 c.find-there.result.1 c.min.result c.front_of.result (length-replicate {A = ℕ} 66 0) found.value c.min.ensures found.after c.front_of.ensures
+    let cut = cut_key o (replicate 66 0) c.find-there.new.key c.find-there.result.0 c.find-there.result.1 c.min.result c.front_of.result in
+    let n = length-replicate {A = ℕ} 66 0 in
+    grind arith

@@ -1,4 +1,4 @@
-use Rattle.std.proofs.Common.{Some, ap}
+use Rattle.std.proofs.Common.{arith}
 use Rattle.ordered_table.specs.Entries.{entries}
 use Rattle.ordered_table.proofs.Places.{find-searched}
 use Rattle.ordered_table.proofs.table.OrderedTable.get.Goals as goal
@@ -7,10 +7,11 @@ pub returns-in_err-at : goal.returns-in_err-at
 returns-in_err-at g c =
     let t = c.args.self.now in
     let probe = c.args.probe.now in
-    rw (c.from_residual.ensures, find-searched g.met.E.Ord.total (entries t) probe probe t.ascending, ← c.search.ensures.value, ← c.in_err-at.ensures.value)
+    let found = find-searched g.met.E.Ord.total (entries t) probe probe t.ascending in
+    grind arith
 
 pub returns : goal.returns
 returns g c =
     let t = c.args.self.now in
-    let probe = c.args.probe.now in
-    rw (find-searched g.met.E.Ord.total (entries t) probe c.index-as_slice-at.result t.ascending, ← c.search.ensures.value, ← c.in_ok-at.ensures.value, ← c.as_slice.ensures) (ap Some c.index-as_slice-at.is)
+    let found = find-searched g.met.E.Ord.total (entries t) c.args.probe.now c.index-as_slice-at.result t.ascending in
+    grind arith

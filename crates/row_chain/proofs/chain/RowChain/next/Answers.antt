@@ -1,5 +1,4 @@
-use Rattle.std.proofs.Common.{[], Some, sym, ap, ◌∙◌, arith, rules}
-use Rattle.std.specs.List.{slice_get}
+use Rattle.std.proofs.Common.{[], arith, rules}
 use Rattle.std.proofs.lemmas.Option.{slice_get-get_or, slice_get_past}
 use Rattle.storage.proofs.Places.{next-at}
 use Rattle.row_chain.specs.Chains.{rows}
@@ -20,9 +19,8 @@ returns-then-seat-self c =
     let self = c.args.self.now in
     let n = length-rows self.linked in
     let seat = c.seek_next-seat in
-    sym
-    (next-at c.args.mark c.args.from.now (rows self.linked) self.ascending
-    ∙ (ap (slice_get (rows self.linked)) (sym seat.ensures.index) ∙ slice_get_past (rows self.linked) seat.result.index (omega arith)))
+    let at = next-at c.args.mark c.args.from.now (rows self.linked) self.ascending in
+    grind (arith, slice_get_past)
 
 pub returns : goal.returns
 returns c =
@@ -33,7 +31,6 @@ returns c =
     let l = c.if-seat-self.false in
     let within = at_within self.linked self.whole seat.result.index seat.result.at seat.ensures.at l in
     let row = row_at self.linked seat.result.index seat.result.at c.index-slots-seat.result seat.ensures.at within l in
-    sym
-    (next-at c.args.mark c.args.from.now rs self.ascending
-    ∙ (ap (slice_get rs) (sym seat.ensures.index)
-    ∙ (slice_get-get_or rs seat.result.index [] (omega arith) ∙ ap Some (row ∙ sym c.as_slice.ensures))))
+    let at = next-at c.args.mark c.args.from.now rs self.ascending in
+    let there = slice_get-get_or rs seat.result.index [] in
+    grind arith

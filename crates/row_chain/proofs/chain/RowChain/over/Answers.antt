@@ -1,4 +1,4 @@
-use Rattle.std.proofs.Common.{◌+◌, ◌<◌, ◌≢◌, length, get_or, refl, ap, ◌∙◌, zero-le, arith, below_more}
+use Rattle.std.proofs.Common.{◌+◌, length, zero-le, arith}
 use Rattle.std.proofs.lemmas.List.{get_or-set_same, get_or-set_other}
 use Rattle.row_chain.specs.Links.{links, walk}
 use Rattle.row_chain.proofs.Fresh.{all_once}
@@ -10,11 +10,11 @@ loop-i-preserved c =
     let slots = c.loop-i.slots in
     let i = c.loop-i.i in
     let n = length-links slots in
-    let within : i < length (links slots) = omega arith in
-    let e = links-set slots i _ in
-    below_more _ _
-    (λ k h. let other : k ≢ i = omega arith in ap (λ ns. get_or ns k 0) e ∙ (get_or-set_other (links slots) i k (i + 1) 0 other ∙ c.loop-i.invariant k h))
-    (ap (λ ns. get_or ns i 0) e ∙ get_or-set_same (links slots) i (i + 1) 0 within)
+    λ k h.
+    let before = c.loop-i.invariant k in
+    let other = get_or-set_other (links slots) i k (i + 1) 0 in
+    let same = get_or-set_same (links slots) i (i + 1) 0 in
+    grind (arith, links-set)
 
 pub invariant_of-result : goal.invariant_of-result
 unfolding walk
@@ -24,4 +24,4 @@ invariant_of-result c =
 
 pub returns : goal.returns
 unfolding walk
-returns c = record { rows = refl; limit = c.loop-i.auto.slots ∙ ap length c.into_cells-slots.ensures }
+returns c = grind arith

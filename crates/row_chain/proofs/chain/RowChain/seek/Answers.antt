@@ -23,8 +23,9 @@ returns-in-Equal c =
     let self = c.args.self.now in
     let l = c.loop-index-test.true in
     let slot = c.index-slots-at in
-    let s = seated_equal here self.ascending l (order-at here self.whole l slot.result slot.is c.as_slice.result.now Equal c.as_slice.ensures c.in-Equal.ensures.value) in
-    record { found = s.0; seat = s.1 }
+    let compared = order-at here self.whole l slot.result slot.is c.as_slice.result.now Equal c.as_slice.ensures c.in-Equal.ensures.value in
+    let s = seated_equal here self.ascending l compared in
+    grind arith
 
 pub returns-in-Greater : goal.returns-in-Greater
 returns-in-Greater c =
@@ -32,11 +33,12 @@ returns-in-Greater c =
     let self = c.args.self.now in
     let l = c.loop-index-test.true in
     let slot = c.index-slots-at in
-    let s = seated_greater here self.ascending l (order-at here self.whole l slot.result slot.is c.as_slice.result.now Greater c.as_slice.ensures c.in-Greater.ensures.value) in
-    record { found = s.0; seat = s.1 }
+    let compared = order-at here self.whole l slot.result slot.is c.as_slice.result.now Greater c.as_slice.ensures c.in-Greater.ensures.value in
+    let s = seated_greater here self.ascending l compared in
+    grind arith
 
 pub returns : goal.returns
 returns c =
     let here = c.loop-index.invariant in
     let s = seated_end here c.args.self.now.ascending (omega arith) in
-    record { found = s.0; seat = s.1 }
+    grind arith

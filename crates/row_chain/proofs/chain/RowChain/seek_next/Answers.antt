@@ -1,6 +1,4 @@
-use Rattle.std.proofs.Common.{Some, sym, ap, ◌∙◌, add-one, rules}
-use Rattle.storage.specs.Places.{next_place}
-use Rattle.row_chain.specs.Links.{links, follow, slot_before}
+use Rattle.std.proofs.Common.{sym, add-one, rules, arith}
 use Rattle.row_chain.proofs.Seats.{next-at}
 use Rattle.row_chain.proofs.Unlinks.{index_lt, seat_within}
 use Rattle.row_chain.proofs.chain.RowChain.seek_next.Goals as goal
@@ -28,10 +26,7 @@ returns-in-Ok-Beyond c =
     let chain = self.linked in
     let seat = c.in-Ok-Beyond.seat in
     let here = c.in-Ok-Beyond.ensures in
-    let on = sym (add-one seat.index) in
+    let on = add-one seat.index in
     let within = seat_within chain c.args.from.now seat self.whole here.seat (sym here.found) in
-    record {
-      index = add-one seat.index ∙ (λ t. next_place (sym c.in-Ok-Beyond.is-1 t) (here.found t) (here.seat.index t));
-      before = ap Some here.seat.at ∙ ap (slot_before (links chain.slots.now) chain.head) on;
-      at = next-at chain seat.index seat.at c.index-self-seat.result here.seat.at within ∙ ap (follow (links chain.slots.now) chain.head) on;
-    }
+    let next = next-at chain seat.index seat.at c.index-self-seat.result here.seat.at within in
+    record { index = grind arith; before = rw on (cc); at = rw on next }

@@ -1,5 +1,4 @@
-use Rattle.std.proofs.Common.{length, sym, refl, ap, ◌∙◌, subst}
-use Rattle.row_chain.specs.Links.{links, Among, redirected, new_head}
+use Rattle.std.proofs.Common.{refl}
 use Rattle.row_chain.proofs.Slots.{links-set, texts-kept}
 use Rattle.row_chain.proofs.links.LinkedSlots.relink.Goals as goal
 
@@ -9,11 +8,11 @@ returns-in-Some c =
     let slots = self.slots.now in
     let slot = c.in-Some.slot in
     let is = c.in-Some.is in
-    let within = subst (Among (length slots)) is c.requires in
+    let within = rw is at c.requires in
     record {
       texts_after = texts-kept slots slot c.index-self-slot.result within _ refl;
-      links_after = links-set slots slot _ ∙ ap (λ b. redirected b c.args.to (links slots)) (sym is);
-      head_after = ap (λ b. new_head b c.args.to self.head) (sym is);
+      links_after = rw is (links-set slots slot _);
+      head_after = rw is refl;
       free_after = refl;
       count_after = refl;
     }

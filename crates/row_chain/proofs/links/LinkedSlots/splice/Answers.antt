@@ -1,6 +1,5 @@
-use Rattle.std.proofs.Common.{suc, sym, ap, ◌∙◌, add-one}
+use Rattle.std.proofs.Common.{arith}
 use Rattle.row_chain.specs.declared.slot.Slot.{Slot}
-use Rattle.row_chain.specs.Links.{redirected}
 use Rattle.row_chain.proofs.Slots.{texts-set, links-set, link_at}
 use Rattle.row_chain.proofs.links.LinkedSlots.splice.Goals as goal
 
@@ -11,10 +10,7 @@ returns c =
     let seat = c.args.seat in
     let slot : Slot = record { row = c.args.row; next = seat.at } in
     let e = c.relink.ensures in
-    record {
-      texts_after = e.texts_after ∙ texts-set slots self.free slot;
-      links_after = e.links_after ∙ ap (redirected seat.before self.free) (links-set slots self.free slot);
-      head_after = e.head_after;
-      free_after = e.free_after ∙ sym (link_at slots self.free c.index-self-fresh.result c.requires.fresh);
-      count_after = add-one _ ∙ ap suc e.count_after;
-    }
+    let texts = texts-set slots self.free slot in
+    let links = links-set slots self.free slot in
+    let link = link_at slots self.free c.index-self-fresh.result c.requires.fresh in
+    grind arith

@@ -1,7 +1,6 @@
-use Rattle.std.proofs.Common.{sym}
+use Rattle.std.proofs.Common.{arith}
 use Rattle.storage.proofs.Bare.{total-bare}
-use Rattle.row_table.specs.Tables.{rows}
 use Rattle.row_table.proofs.reading.RowTableOrderedReading.total.Goals as goal
 
 pub returns : goal.returns
-returns c = sym (total-bare (rows c.args.self.now))
+returns c = grind (arith, total-bare)
