@@ -100,7 +100,7 @@ impl<'a> RowChain<'a> {
         Some(slots[seat.at].row.as_slice())
     }
 
-    // Where it stands, or the seat behind the last row.
+    // Where it stands, or the seat behind the last row. So does a table of rows with places; here a link leads on.
     fn seek_next(&self, from: &[u8], mark: PositionMark) -> Seat
         ensures index { result.index ≡ next_place mark (holds order (rows self.now.linked) from.now) (place order (rows self.now.linked) from.now) }
         ensures before { result.before ≡ slot_before (links self.now.linked.slots.now) self.now.linked.head result.index }
