@@ -67,9 +67,6 @@ below-after x y z h l = grind (arith, below-trans, below_neither)
 pub not_below_trans : (x y z : Bytes) → below y x ≡ false → below x z ≡ false → below y z ≡ false
 not_below_trans x y z h k = grind (arith, below-after)
 
-pub not_same : (x y : Bytes) → (x ≡ y → ⊥) → same x y ≡ false
-not_same x y n = grind (arith, same_is)
-
 pub same_cases : (x y : Bytes) → (x ≡ y) ⊎ (same x y ≡ false)
 same_cases x y = grind (arith, same_is)
 

@@ -1,9 +1,8 @@
 -- What a file of rows answers and leaves, by the list of its rows. Assumes nothing.
-use Rattle.std.proofs.Common.{◌≡◌, ℕ, ◌<◌, ◌≤◌, Bool, true, false, cond, ◌||◌, eqb, ltb, leb, List, [], ◌∷◌, length, get_or, Some, None, Ok, Err, Result, refl, arith}
+use Rattle.std.proofs.Common.{◌≡◌, ℕ, ◌<◌, ◌≤◌, Bool, true, false, cond, ◌||◌, eqb, ltb, leb, List, [], ◌∷◌, length, Some, None, Ok, Err, Result, refl, arith}
 use Rattle.std.proofs.Math.Seq.{take-nil}
 use Rattle.std.specs.List.{insert, remove}
 use Rattle.std.proofs.lemmas.List.{length-map}
-use Rattle.std.proofs.lemmas.Option.{slice_get-get_or, slice_get_past}
 use Rattle.std.proofs.lemmas.Bool.Decides.{nat_tests}
 use Rattle.byte_strings.specs.Bytes.{Bytes, order}
 use Rattle.byte_strings.proofs.TotalOrder.{same_order}
@@ -11,13 +10,11 @@ use Rattle.ordered_table.specs.Table.{holds, place}
 use Rattle.ordered_table.proofs.Edits.{map-inserted, map-removed}
 use Rattle.storage.specs.declared.faults.RowFault.{RowFault}
 use Rattle.storage.specs.declared.faults.RowFault.TheVariants.{AlreadyExists, NotFound, FileFull}
-use Rattle.storage.specs.declared.mark.PositionMark.{PositionMark}
 use Rattle.storage.specs.Checks.{first, settled}
-use Rattle.storage.specs.Pairs.{Ascending, total, keys, next, under, placed, without}
-use Rattle.storage.specs.Places.{next_place}
+use Rattle.storage.specs.Pairs.{Ascending, total, under, placed, without}
 use Rattle.storage.specs.Reading.{fetched, filled}
 use Rattle.storage.specs.Rows.{bare, keys_bare, bare_ascending, row_checks, add_checks, drop_checks}
-use Rattle.storage.proofs.Places.{placed_at, without_at, next-at}
+use Rattle.storage.proofs.Places.{placed_at, without_at}
 
 pub total-bare : (rows : List Bytes) → total (bare rows) ≡ 0
 unfolding total
@@ -47,20 +44,6 @@ module _ (rows : List Bytes) (x : Bytes) where
 
   pub fetch_absent : (buffer : Bytes) → holds order rows x ≡ false → (Err (record {}) ≡ fetched (under x (bare rows)) (length buffer)) × (buffer ≡ filled (under x (bare rows)) buffer)
   fetch_absent buffer h = let e = under-bare rows x in grind arith
-
-  -- ---- finding
-
-  pub find_some : (mark : PositionMark) (i : ℕ) → Ascending rows → i ≡ next_place mark (holds order rows x) (place order rows x) → i < length rows → next mark x (keys (bare rows)) ≡ Some (get_or rows i [])
-  find_some mark i up e l =
-      let same = keys_bare rows in
-      let at = next-at mark x rows up in
-      grind (arith, slice_get-get_or)
-
-  pub find_none : (mark : PositionMark) (i : ℕ) → Ascending rows → i ≡ next_place mark (holds order rows x) (place order rows x) → length rows ≤ i → next mark x (keys (bare rows)) ≡ None
-  find_none mark i up e l =
-      let same = keys_bare rows in
-      let at = next-at mark x rows up in
-      grind (arith, slice_get_past)
 
   -- ---- adding
 
