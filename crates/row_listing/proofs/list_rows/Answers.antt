@@ -1,7 +1,5 @@
-use Rattle.std.proofs.Common.{◌<◌, ◌≤◌, length, take, vec_items, ap, ◌∙◌, arith}
-use Rattle.std.specs.Option.{option_map}
+use Rattle.std.proofs.Common.{◌<◌, length, vec_items, arith}
 use Rattle.std.proofs.lemmas.List.{length-map, take_all}
-use Rattle.std.proofs.lemmas.Option.{none-some}
 use Rattle.byte_strings.specs.Bytes.{Bytes}
 use Rattle.storage.specs.Pairs.{keys}
 use Rattle.row_listing.proofs.Steps.{follows, listed_more}
@@ -9,7 +7,7 @@ use Rattle.row_listing.proofs.list_rows.Goals.{else-loop-test, then-loop-test+in
 use Rattle.row_listing.proofs.list_rows.Goals as goal
 
 pub loop-preserved : goal.loop-preserved
-loop-preserved g c = λ h.
+loop-preserved g c h =
     let ps = g.R.OrderedReading.pairs c.args.file.now in
     let n = length-map ps (λ (p : Bytes × Bytes). p.0) in
     let l : c.loop.counter < length (keys ps) = omega arith in
@@ -19,14 +17,15 @@ loop-preserved g c = λ h.
     grind arith
 
 pub returns : goal.returns
-returns g c = λ h.
+returns g c h =
     let ps = g.R.OrderedReading.pairs c.args.file.now in
     let n = length-map ps (λ (p : Bytes × Bytes). p.0) in
     let listed = c.loop.invariant h in
     elim c.loop-test.branch [
-      | else-loop-test w ↦ let l : length (keys ps) ≤ c.loop.counter = let t = w.loop-test.false in omega arith in listed ∙ take_all c.loop.counter (keys ps) l
+      | else-loop-test w ↦ let end = w.loop-test.false in grind (arith, take_all)
       | then-loop-test+in_default w ↦
-          let l : c.loop.counter < length (keys ps) = let t = w.loop-test.true in omega arith in
-          let f = follows (keys ps) (vec_items c.loop.rows) c.loop.counter w.deref.result.now w.last.result (g.met.R.OrderedReading.ascending c.args.file.now) listed l w.deref.ensures.value w.last.ensures.value in
-          absurd (none-some _ (w.in_default.ensures ∙ ap (option_map (take 66)) f))
+          let l = w.loop-test.true in
+          let f = follows (keys ps) (vec_items c.loop.rows) c.loop.counter w.deref.result.now w.last.result (g.met.R.OrderedReading.ascending c.args.file.now) listed (omega arith) w.deref.ensures.value w.last.ensures.value in
+          let none = w.in_default.ensures in
+          grind arith
     ]

@@ -1,4 +1,4 @@
-use Rattle.std.proofs.Common.{sym, add-one, rules, arith}
+use Rattle.std.proofs.Common.{Some, ap, sym, add-one, rules}
 use Rattle.row_chain.proofs.Seats.{next-at}
 use Rattle.row_chain.proofs.Unlinks.{index_lt, seat_within}
 use Rattle.row_chain.proofs.chain.RowChain.seek_next.Goals as goal
@@ -20,13 +20,13 @@ bounds-self-seat c =
 pub offset_bounds-self-seat : goal.offset_bounds-self-seat
 offset_bounds-self-seat c = let l = bounds-self-seat c in search rules
 
-pub returns-in-Ok-Beyond : goal.returns-in-Ok-Beyond
-returns-in-Ok-Beyond c =
+pub returns-in-Ok-Beyond-clause-before : goal.returns-in-Ok-Beyond-clause-before
+returns-in-Ok-Beyond-clause-before c = rw (add-one c.in-Ok-Beyond.seat.index) (ap Some c.in-Ok-Beyond.ensures.seat.at)
+
+pub returns-in-Ok-Beyond-clause-at : goal.returns-in-Ok-Beyond-clause-at
+returns-in-Ok-Beyond-clause-at c =
     let self = c.args.self.now in
-    let chain = self.linked in
     let seat = c.in-Ok-Beyond.seat in
     let here = c.in-Ok-Beyond.ensures in
-    let on = add-one seat.index in
-    let within = seat_within chain c.args.from.now seat self.whole here.seat (sym here.found) in
-    let next = next-at chain seat.index seat.at c.index-self-seat.result here.seat.at within in
-    record { index = grind arith; before = rw on (cc); at = rw on next }
+    let within = seat_within self.linked c.args.from.now seat self.whole here.seat (sym here.found) in
+    rw (add-one seat.index) (next-at self.linked seat.index seat.at c.index-self-seat.result here.seat.at within)

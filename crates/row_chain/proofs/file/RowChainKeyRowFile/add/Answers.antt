@@ -19,17 +19,17 @@ returns-then-self-clause-value c =
     let n = length-rows c.args.self.now.linked in
     grind (arith, add_full)
 
-pub splice-requires : goal.splice-requires
-splice-requires c =
+pub splice-requires-clause-fresh : goal.splice-requires-clause-fresh
+splice-requires-clause-fresh c =
     let self = c.args.self.now in
-    let row = c.args.row.now in
+    fresh_within self.linked c.args.row.now c.in-Err.seat self.whole c.if-self.false c.in-Err.ensures.seat
+
+pub splice-requires-clause-before : goal.splice-requires-clause-before
+splice-requires-clause-before c =
+    let self = c.args.self.now in
     let seat = c.in-Err.seat in
     let seated = c.in-Err.ensures.seat in
-    let room = c.if-self.false in
-    let fresh = fresh_within self.linked row seat self.whole room seated in
-    let l = index_le self.linked row seat self.whole room seated in
-    let before = before_within self.linked self.whole seat.index seat.before seated.before l in
-    grind arith
+    before_within self.linked self.whole seat.index seat.before seated.before (index_le self.linked c.args.row.now seat self.whole c.if-self.false seated)
 
 pub invariant_of-self : goal.invariant_of-self
 invariant_of-self c =

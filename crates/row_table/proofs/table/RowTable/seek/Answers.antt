@@ -1,5 +1,5 @@
-use Rattle.std.proofs.Common.{◌+◌, ◌^◌, ◌<◌, arith, rules, refl}
-use Rattle.std.proofs.lemmas.List.{length-take, take_all}
+use Rattle.std.proofs.Common.{arith, refl}
+use Rattle.std.proofs.lemmas.List.{take_all}
 use Rattle.byte_strings.specs.Bytes.{order}
 use Rattle.byte_strings.specs.Texts.{text}
 use Rattle.ordered_table.specs.Entries.{entries}
@@ -10,13 +10,6 @@ use Rattle.row_table.proofs.table.RowTable.seek.Goals as goal
 pub returns-then-string-le-LONGEST_ROW : goal.returns-then-string-le-LONGEST_ROW
 returns-then-string-le-LONGEST_ROW c =
     rw (c.search-place.ensures.value, searched-keys text order (entries c.args.self.now.rows) c.front_of.result, c.front_of.ensures, take_all 66 c.args.string.now c.if-string-le-LONGEST_ROW.true) refl
-
-pub overflow_add-result : goal.overflow_add-result
-overflow_add-result c =
-    let t = c.args.self.now.rows in
-    let n = length-take t.used t.cells.now in
-    let l : c.in-Ok.at + 1 < 2 ^ 64 = omega (arith, t.countable, c.in-Ok.ensures.bound) in
-    search rules
 
 pub returns-in-Ok : goal.returns-in-Ok
 returns-in-Ok c =
