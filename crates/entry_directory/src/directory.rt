@@ -30,6 +30,7 @@ impl<'a> Directory<'a> {
     pub fn look_up(&self, number: u32) -> Option<DirectoryEntry>
         ensures { result ≡ entry_of number (listed self.now) }
     {
+        // entries compare by their numbers alone
         let probe = DirectoryEntry {
             number,
             start: 0,

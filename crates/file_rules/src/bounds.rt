@@ -4,11 +4,11 @@ ghost use Rattle.std.specs.List.{list_all};
 ghost use Rattle.byte_strings.specs.Bytes.{same};
 ghost use Rattle.storage.specs.Checks.{first, settled};
 ghost use Rattle.file_rules.specs.Bounds.{field_fits, key_fits, alternate_fits, specifiers_differ, table_fits, within_bounds, bound_checks};
-ghost use Rattle.file_rules.specs.Descriptions.{described};
+ghost use Rattle.file_rules.specs.Descriptions.{described, shape_of};
 
 use crate::description::{AlternateKey, FileDescription, KeyField, Organization};
 use crate::fault::CallFault;
-use storage::{LONGEST_KEY, LONGEST_RECORD, MOST_BYTES, MOST_RECORDS, MOST_ROWS};
+use storage::{LONGEST_KEY, MOST_ROWS, PrimaryShape};
 
 pub const HIGHEST_OFFSET: usize = 254;
 
@@ -28,12 +28,23 @@ impl FileDescription<'_> {
     fn is_within_bounds(&self) -> bool
         ensures { result ≡ within_bounds (described self.now) }
     {
-        (1..=LONGEST_RECORD).contains(&self.max_record_len)
+        self.shape().check().is_ok()
             && self.key_fits()
             && self.table_fits()
-            && (1..=MOST_RECORDS).contains(&self.record_limit)
-            && (1..=MOST_BYTES).contains(&self.byte_limit)
             && (1..=MOST_ROWS).contains(&self.row_limit)
+    }
+
+    // What the primary file of such a file states.
+    fn shape(&self) -> PrimaryShape
+        ensures { result ≡ shape_of (described self.now) }
+    {
+        PrimaryShape {
+            kind: self.organization.kind(),
+            key_len: self.organization.key_len(),
+            max_record_len: self.max_record_len,
+            record_limit: self.record_limit,
+            byte_limit: self.byte_limit,
+        }
     }
 
     fn key_fits(&self) -> bool
@@ -66,9 +77,7 @@ impl FileDescription<'_> {
     fn alternate_fits(&self, key: &AlternateKey) -> bool
         ensures { result ≡ alternate_fits self.now.max_record_len key.now }
     {
-        key.specifier != [0, 0]
-            && key.field.offset <= HIGHEST_OFFSET
-            && self.field_fits(key.field)
+        key.specifier != [0, 0] && key.field.offset <= HIGHEST_OFFSET && self.field_fits(key.field)
     }
 
     // 1 to 32 bytes that end within the longest record.

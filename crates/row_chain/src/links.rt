@@ -1,5 +1,6 @@
 // Slots in two chains, one of the rows in their order and one of the free slots. Both are told by numbers, of a first
-// slot and of the next one in each, and their lengths are known, so the link of a last slot does not matter.
+// slot and of the next one in each, and their lengths are known, so the link of a last slot does not matter; an `Option`
+// there would be a second sign of the end.
 ghost use Rattle.std.specs.Prelude.{◌<◌, length};
 ghost use Rattle.byte_strings.specs.Texts.{text};
 ghost use Rattle.row_chain.specs.Links.{Among};

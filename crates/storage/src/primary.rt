@@ -1,4 +1,5 @@
-// A primary file holds the records, each under its primary key. It states its shape for life.
+// A primary file holds the records, each under its primary key. It states its shape for life, which each method says of
+// itself, as a law of the trait can't speak of its methods.
 ghost use Rattle.std.specs.Prelude.{◌≡◌};
 ghost use Rattle.storage.specs.declared.shape.PrimaryShape.{PrimaryShape};
 ghost use Rattle.storage.specs.Checks.{first, settled, leaves};
