@@ -62,7 +62,8 @@ impl<'a> RowChain<'a> {
         }
     }
 
-    // Where the row stands, or else would stand. Slots are linked by numbers, so no iterator goes along them.
+    // Where the row stands, or else would stand. A loop, since the seat needs the slot before as well, and a closure for
+    // `successors` would have to index the slots at any number.
     pub(crate) fn seek(&self, row: &[u8]) -> Result<Seat, Seat>
         ensures found { is_ok result ≡ holds order (rows self.now.linked) row.now }
         ensures seat { MatchResult result (Seated self.now.linked row.now) (Seated self.now.linked row.now) }

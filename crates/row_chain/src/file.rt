@@ -22,6 +22,7 @@ impl OrderedReading for RowChain<'_> {
         0
     }
 
+    // the pair that the interface wants, of an `Option`
     fn find(&self, from: &[u8], mark: PositionMark, key: &mut [u8]) -> (bool, usize) {
         fill_found(self.next(from, mark), key)
     }

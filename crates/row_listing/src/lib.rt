@@ -36,7 +36,7 @@ fn row_after<R: OrderedReading>(file: &R, last: Option<&KeyRow>) -> Option<KeyRo
     }
 }
 
-// The key that finding comes to, cut to a row.
+// The key that finding comes to, cut to a row: an `Option` again of the pair that the interface wants.
 fn next_row<R: OrderedReading>(file: &R, from: &[u8], mark: PositionMark) -> Option<KeyRow>
     ensures { option_map text result ≡ option_map (take 66) (next mark from.now (keys (R.OrderedReading.pairs file.now))) }
 {

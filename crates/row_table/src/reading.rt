@@ -19,6 +19,7 @@ impl OrderedReading for RowTable<'_> {
         0
     }
 
+    // the pair that the interface wants, of an `Option`
     fn find(&self, from: &[u8], mark: PositionMark, key: &mut [u8]) -> (bool, usize) {
         fill_found(self.next(from, mark), key)
     }

@@ -58,7 +58,7 @@ impl<'a> RowTable<'a> {
         Some(row.as_slice())
     }
 
-    // Where it stands, or the end of the rows.
+    // Where it stands, or the end of the rows. So does a chain with seats; there a link leads on.
     fn next_at(&self, from: &[u8], mark: PositionMark) -> usize
         ensures { result ≡ next_place mark (holds order (rows self.now) from.now) (place order (rows self.now) from.now) }
     {

@@ -16,7 +16,8 @@ const ROWS: usize = 24;
 
 fn main(rt: HostRuntime) -> anyhow::Result<()> {
     let heap = rt.alloc();
-    // as settlement makes them; a function that made both files would hand out memory of its own
+    // as settlement makes them: what is left twice differs in cells and words, and a function for the memory too would hand
+    // out what it owns
     let mut cells = vec![in heap; KeyRow::empty(); ROWS]?;
     let mut slots = vec![in heap; Slot::unused(); ROWS]?;
     // no map_err: its closure would take the memory back, a `&mut` slice, which the borrow checker does not cover

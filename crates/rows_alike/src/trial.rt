@@ -71,6 +71,7 @@ impl<T: KeyRowFile, C: KeyRowFile> Trial<T, C> {
         let by_table = self.table.find(from, mark, &mut left);
         let by_chain = self.chain.find(from, mark, &mut right);
         self.tally.note_like(by_table == by_chain && left == right);
+        // the pair that the interface wants
         let (there, _) = by_table;
         self.tally.note_reading(there);
     }

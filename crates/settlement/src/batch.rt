@@ -70,7 +70,7 @@ impl<T: KeyRowFile, C: KeyRowFile> Batch<T, C> {
         Ok(())
     }
 
-    // The list and the sum of each region by the table's rows, and whether the chain gives the same rows.
+    // The list and the sum of each region by the table's rows, and, in words of its own, whether the chain gives the same.
     pub(crate) fn print(&self, rt: &(impl AllocGlobal + Print)) -> anyhow::Result<()> {
         let heap = rt.alloc();
         let by_table = list_rows(heap, &self.files.table)?;

@@ -28,6 +28,7 @@ fn main(rt: HostRuntime) -> anyhow::Result<()> {
     let heap = rt.alloc();
     let limit = row_limit(&rt)?;
     let held = limit.min(MOST_ROWS);
+    // as rows_alike makes them, which differs in size and words
     let mut cells = vec![in heap; KeyRow::empty(); held]?;
     let mut slots = vec![in heap; Slot::unused(); held]?;
     // no `map_err`: it takes a `&mut` in either variant, which the borrow checker does not cover
