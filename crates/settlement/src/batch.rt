@@ -1,11 +1,12 @@
 // The batch, over any two key-row files.
-ghost use Rattle.std.specs.Prelude.{◌≡◌, [], Some, IfSome, OnErr, OnOk};
+ghost use Rattle.std.specs.Prelude.{◌≡◌, [], length, Some, IfSome, OnErr, OnOk};
 ghost use Rattle.std.specs.HashMap.{IsUnchanged, get};
+ghost use Rattle.std.specs.Option.{option_map};
 ghost use Rattle.byte_strings.specs.Texts.{text};
 ghost use Rattle.storage.specs.Pairs.{placed};
 ghost use Rattle.settlement.specs.Delivery.{row_of};
 
-use crate::delivery::{Delivery, Key, key_of, region_of};
+use crate::delivery::{Delivery, KEY_LEN, Key, key_of, region_of};
 use crate::files::BothFiles;
 use crate::flaw::Flaw;
 use crate::report::print_region;
@@ -102,8 +103,10 @@ impl<T: KeyRowFile, C: KeyRowFile> Batch<T, C> {
         Ok(listed)
     }
 
+    // The delivery whose row it is.
     fn delivery_of(&self, row: &KeyRow) -> Option<&Delivery>
-        ensures { IfSome result (λ delivery. row_of delivery.now.region delivery.now.key ≡ text row.now) }
+        ensures its_row { IfSome result (λ delivery. row_of delivery.now.region delivery.now.key ≡ text row.now) }
+        ensures found { (delivery : _) → length delivery.key ≡ KEY_LEN → get ⟦<Key as PartialEq>⟧.eq self.now.deliveries delivery.key ≡ Some delivery → text row.now ≡ row_of delivery.region delivery.key → option_map (λ d. d.now) result ≡ Some delivery }
     {
         self.deliveries
             .get(&key_of(row)?)

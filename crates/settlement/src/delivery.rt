@@ -12,7 +12,7 @@ use storage::KeyRow;
 // The specifier of the alternate key 'region'.
 const REGION_KEY: [u8; 2] = *b"RG";
 
-const KEY_LEN: usize = 6;
+pub(crate) const KEY_LEN: usize = 6;
 
 pub(crate) type Key = Code<KEY_LEN>;
 
