@@ -27,6 +27,7 @@ impl<'a> Directory<'a> {
     }
 
     // The entry with that record number, if there is one.
+    #[tactic(auto, using(crate::proofs::Lookups::found_by_number))]
     pub fn look_up(&self, number: u32) -> Option<DirectoryEntry>
         ensures { result ≡ entry_of number (listed self.now) }
     {

@@ -1,5 +1,5 @@
 -- What a table of rows answers and holds after the ordered table took an entry in or out. Assumes nothing.
-use Rattle.std.proofs.Common.{◌≡◌, ℕ, ◌≤◌, false, ◌||◌, eqb, ltb, [], map, length, take, Some, None, Ok, Err, sym, ◌∙◌, arith}
+use Rattle.std.proofs.Common.{◌≡◌, ℕ, ◌≤◌, false, ◌||◌, eqb, ltb, List, [], map, length, take, Some, None, Ok, Err, sym, ap, ◌∙◌, arith}
 use Rattle.std.specs.List.{insert, remove}
 use Rattle.std.proofs.lemmas.List.{length-map, take_all}
 use Rattle.byte_strings.specs.declared.string.ByteString.{ByteString}
@@ -61,3 +61,11 @@ module _ (t : RowTable) (row : Bytes) (entry : ByteString 66) (is : text entry �
       let leaves = drop_leaves (rows t) row (rows_ascend t) in
       let mapped = map-removed text (entries t.rows) at in
       grind arith
+
+  -- the two halves of it, as the check asks for them
+  module _ (at : ℕ) (v : Some at ≡ removal (by_key text order) (entries t.rows) entry) where
+    pub drop_answered : Ok tt ≡ settled (first (drop_checks (bare (rows t)) row))
+    drop_answered = (dropped at v).0
+
+    pub held_after_drop : (es : List (ByteString 66)) → es ≡ remove (entries t.rows) at → bare (map text es) ≡ without row (bare (rows t))
+    held_after_drop es e = ap (λ xs. bare (map text xs)) e ∙ (dropped at v).1

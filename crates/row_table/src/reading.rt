@@ -20,6 +20,7 @@ impl OrderedReading for RowTable<'_> {
     }
 
     // the pair that the interface wants, of an `Option`
+    #[tactic(auto, using(storage::specs::Rows::keys_bare))]
     fn find(&self, from: &[u8], mark: PositionMark, key: &mut [u8]) -> (bool, usize) {
         fill_found(self.next(from, mark), key)
     }

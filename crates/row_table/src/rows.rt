@@ -17,6 +17,7 @@ impl KeyRowFile for RowTable<'_> {
         Ok(())
     }
 
+    #[tactic(auto, using(storage::proofs::Bare::drop_absent, crate::proofs::Sought::long_absent, crate::proofs::Changes::drop_answered, crate::proofs::Changes::held_after_drop, crate::proofs::Changes::not_dropped))]
     fn drop_row(&mut self, row: &[u8]) -> Result<(), RowFault> {
         if row.len() > LONGEST_ROW {
             return Err(RowFault::NotFound);

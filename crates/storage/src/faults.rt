@@ -53,7 +53,7 @@ impl PrimaryFault {
     pub fn number(self) -> u16
         ensures { result ≡ primary_number self }
     {
-        self as u16
+        self as u16 // a primary fault's own
     }
 }
 
@@ -61,7 +61,7 @@ impl RowFault {
     pub fn number(self) -> u16
         ensures { result ≡ row_number self }
     {
-        self as u16
+        self as u16 // a row fault's own
     }
 }
 
