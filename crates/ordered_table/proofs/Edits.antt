@@ -1,5 +1,5 @@
 -- Entries that ascend, when one goes in at its place or comes out. Assumes nothing.
-use Rattle.std.proofs.Common.{◌≡◌, ℕ, zero, suc, Bool, false, ◌&&◌, T, List, [], ◌∷◌, map, Ordering, Less, refl, arith}
+use Rattle.std.proofs.Common.{◌≡◌, ℕ, zero, suc, Bool, true, false, ◌&&◌, T, List, [], ◌∷◌, map, Ordering, Less, refl, arith}
 use Rattle.std.specs.Cmp.{IsTotalOrder}
 use Rattle.std.specs.Ordering.{is_lt}
 use Rattle.std.specs.List.{insert, remove, list_all}
@@ -15,6 +15,9 @@ left a b p = grind arith
 
 pub right : (a b : Bool) → T (a && b) → T b
 right a b p = grind arith
+
+pub passes : (b : Bool) → T b → b ≡ true
+passes b p = grind arith
 
 pub is_less : (o : Ordering) → T (is_lt o) → o ≡ Less
 is_less o h = grind arith

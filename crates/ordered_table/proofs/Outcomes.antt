@@ -1,10 +1,18 @@
 -- What the answers of an insertion and a removal tell, and what stands at the front after them. Assumes nothing.
-use Rattle.std.proofs.Common.{◌≡◌, ℕ, ◌+◌, ◌<◌, ◌≤◌, true, false, List, length, take, Some, None, Ok, Ordering, arith}
+use Rattle.std.proofs.Common.{◌≡◌, ℕ, ◌+◌, ◌<◌, ◌≤◌, Bool, true, false, cond, List, length, take, Some, None, Ok, Err, Ordering, arith}
 use Rattle.std.specs.List.{insert, remove}
 use Rattle.std.proofs.lemmas.List.Edits.{length-insert, length-remove}
 use Rattle.std.proofs.lemmas.List.{length-take, take_at}
 use Rattle.std.proofs.lemmas.Bool.Decides.{nat_tests}
 use Rattle.ordered_table.specs.Table.{holds, place, insertion, removal, inserted_by, removed_by}
+
+-- ---- a search
+
+pub not_there : (b : Bool) (p at : ℕ) → Err at ≡ cond b (Ok p) (Err p) → (b ≡ false) × (p ≡ at)
+not_there b p at e = grind arith
+
+pub is_there : (b : Bool) (p at : ℕ) → Ok at ≡ cond b (Ok p) (Err p) → (b ≡ true) × (p ≡ at)
+is_there b p at e = grind arith
 
 -- ---- insertions and removals
 

@@ -1,11 +1,19 @@
 -- The number of pairs and the total of their bytes after a pair was put in, changed or taken out. Assumes nothing.
-use Rattle.std.proofs.Common.{◌≡◌, ℕ, suc, ◌+◌, ◌-◌, ◌≤◌, true, List, [], ◌∷◌, length, Some, refl, arith}
+use Rattle.std.proofs.Common.{◌≡◌, ℕ, suc, ◌+◌, ◌-◌, ◌≤◌, true, List, [], ◌∷◌, length, Option, None, Some, refl, arith}
 use Rattle.std.specs.Option.{option_map}
 use Rattle.byte_strings.specs.Bytes.{Bytes, same}
 use Rattle.byte_strings.proofs.TotalOrder.{total_order, same_is}
 use Rattle.ordered_table.proofs.Edits.{none_beyond}
 use Rattle.storage.specs.Pairs.{Ascending, keys, total, under, placed, replaced, without}
 use Rattle.storage.proofs.Places.{without-none}
+
+-- a length known means a record there
+pub of_length : (o : Option Bytes) (n : ℕ) → option_map length o ≡ Some n → (old : Bytes) × (o ≡ Some old) × (length old ≡ n)
+of_length None n h = cc
+of_length (Some old) n h = (old, refl, cc)
+
+pub rest_ascending : {A : Type 0} (p : Bytes × A) (ps : List (Bytes × A)) → Ascending (keys (p ∷ ps)) → Ascending (keys ps)
+rest_ascending p ps up = grind arith
 
 -- ---- how many pairs there are
 

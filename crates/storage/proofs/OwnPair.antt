@@ -1,5 +1,5 @@
 -- Placing, replacing and removing alter what stands under their own key, and nothing else. Assumes nothing.
-use Rattle.std.proofs.Common.{◌≡◌, ℕ, false, true, List, [], ◌∷◌, is_some, Some, None, Ok, sym, refl, subst, arith}
+use Rattle.std.proofs.Common.{◌≡◌, ℕ, false, true, List, [], ◌∷◌, Option, is_some, Some, None, Ok, sym, refl, subst, arith}
 use Rattle.byte_strings.specs.Bytes.{Bytes, order, same}
 use Rattle.byte_strings.proofs.TotalOrder.{is_same, same_is, same_order, total_order}
 use Rattle.ordered_table.specs.Table.{holds, place}
@@ -9,6 +9,9 @@ use Rattle.storage.specs.Laws.{OwnPairChanged, OrderKept}
 use Rattle.storage.specs.Pairs.{Ascending, keys, under, placed, replaced, without}
 use Rattle.storage.specs.Rows.{add_checks, drop_checks}
 use Rattle.storage.proofs.Places.{placed_at, without_at, without-none}
+
+pub is_none : {A : Type 0} (o : Option A) → is_some o ≡ false → o ≡ None
+is_none o h = grind arith
 
 -- ---- under the own key
 
